@@ -1,0 +1,4 @@
+-- What belongs to no one function.
+mod Entries
+mod Laws
+mod Determined

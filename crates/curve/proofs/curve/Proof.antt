@@ -1,0 +1,47 @@
+-- `curve::curve` meets its contract: a frequency in the range is a natural number. Assumes nothing.
+use mathlib.Core.Path.{_≡_, sym, ap, _∙_}
+use lib.IntN.{ℤ, pos, natAbs}
+use mir.Syntax.{w64}
+use mir.Val.{SFits}
+use mir.Facts.{toZ-ofZ}
+use borrow.Author.Needs.{needs}
+use Rattle.whole.specs.Whole.{inRange}
+use Rattle.whole.proofs.Signed.{size-fits}
+use Rattle.curve.specs.Curve.{curveAt, boundsAt}
+use Rattle.curve.proofs.Laws.{natural}
+use Rattle.curve.proofs.curve.Statement.{statement}
+use Rattle.curve.proofs.curve.Tie as tie
+
+within-requires : tie.Need-within-requires
+within-requires c κs = search needs
+
+f-fits : (c : tie.After-struct-told) → SFits w64 (c .before .args .frequency .0)
+f-fits c = search needs
+
+-- what the test found
+found : (c : tie.After-within) → inRange (pos 55000) (pos 65000) (c .before .before .args .frequency .0) ≡ c .within .result
+found c = sym (rw (toZ-ofZ (f-fits (c .before))) at (c .within .ensures))
+
+cast-bounds-at : tie.Need-cast-bounds-at
+cast-bounds-at c =
+    let f = f-fits (c .before .before) in
+    rw (toZ-ofZ f) (natural 55000 65000 _ (found (c .before) ∙ c .if1 .taken) .0, size-fits f)
+
+bounds-at-requires : tie.Need-bounds-at-requires
+bounds-at-requires c κs = search needs
+
+returns : tie.Need-returns
+unfolding curveAt
+returns c =
+    let t = c .before in
+    let e = found (t .before) ∙ t .if1 .taken in
+    let f = f-fits (t .before .before) in
+    rw e (rw (toZ-ofZ f, natural 55000 65000 _ e .1) at (c .bounds-at .ensures))
+
+returns-2 : tie.Need-returns-2
+unfolding curveAt
+returns-2 c = rw (found (c .before) ∙ c .if1 .left)
+
+pub curve-spec : {M : Type 1} → statement M
+curve-spec =
+    tie.close (tie.spec within-requires cast-bounds-at bounds-at-requires returns returns-2)

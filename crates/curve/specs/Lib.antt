@@ -1,0 +1,2 @@
+-- The power curve.
+pub mod Curve

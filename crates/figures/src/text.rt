@@ -1,0 +1,18 @@
+// Lines of the output.
+pub fn heading(title: &[u8]) {
+    io::write_all(1, title);
+    io::write_all(1, b"\n");
+}
+
+// A number, with a space before it.
+pub fn number(x: i64) {
+    io::write_all(1, b" ");
+    if x < 0 {
+        io::write_all(1, b"-");
+    }
+    io::print_decimal(1, whole::size(x));
+}
+
+pub fn end() {
+    io::write_all(1, b"\n");
+}

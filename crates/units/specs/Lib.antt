@@ -1,0 +1,3 @@
+-- The refusal numbers of document 01, and the one conversion between units.
+pub mod Refusals
+pub mod Units

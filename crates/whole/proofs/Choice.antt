@@ -1,0 +1,40 @@
+-- What a choice by a test comes to: tests that pass together, a chain of refusals that let a call through, and what is kept.
+-- By cases of the tests. Assumes nothing.
+use Prim.Native.Nat.{ℕ, suc}
+use mathlib.Core.Path.{_≡_, refl, sym, ap, _∙_}
+use mathlib.Core.Bool.{Bool, true, false, not, _&&_}
+use native.Mathlib.Omega.{arith}
+use lib.Dec.{eqb}
+use borrow.Author.Tests.{eq-eqb, ne-eqb, eqb-true}
+use Rattle.whole.specs.Choice.{pick, unless, orElse, kept}
+
+-- no test both fails and passes
+pub clash {ℓ} : {X : Type ℓ} → _≡_ {A = Bool} false true → X
+clash e = let z : _≡_ {A = ℕ} 0 1 = cc in absurd (omega arith)
+
+pub both : {a b : Bool} → a ≡ true → b ≡ true → (a && b) ≡ true
+both p q = rw (p, q)
+
+pub and-both : (a b : Bool) → (a && b) ≡ true → (a ≡ true) × (b ≡ true)
+and-both true b e = (refl, e)
+and-both false b e = (e, clash e)
+
+-- a test, by its value: the two cases of a lemma
+pub by-test {ℓ} : {P : Type ℓ} (b : Bool) → (b ≡ true → P) → (b ≡ false → P) → P
+by-test true f g = f refl
+by-test false f g = g refl
+
+-- where nothing is refused the test passed, and so did the rest
+pub passed : (b : Bool) (n rest : ℕ) → unless b (suc n) rest ≡ 0 → (b ≡ true) × (rest ≡ 0)
+passed true n rest e = (refl, e)
+passed false n rest e = absurd (omega arith)
+
+pub both-passed : (k rest : ℕ) → orElse k rest ≡ 0 → (k ≡ 0) × (rest ≡ 0)
+both-passed k rest e = by-test (eqb k 0) (λ (t : eqb k 0 ≡ true). (eqb-true k 0 t, rw t at e)) (λ (t : eqb k 0 ≡ false). let z : k ≡ 0 = rw t at e in clash (sym t ∙ eq-eqb k 0 z))
+
+-- what is kept
+pub kept-new : {A : Type 0} {k : ℕ} (new old : A) → k ≡ 0 → kept k new old ≡ new
+kept-new {k = k} new old e = rw (eq-eqb k 0 e)
+
+pub kept-old : {A : Type 0} {k : ℕ} (new old : A) → (k ≡ 0 → ⊥) → kept k new old ≡ old
+kept-old {k = k} new old h = rw (ne-eqb k 0 h)

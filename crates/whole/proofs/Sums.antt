@@ -1,0 +1,49 @@
+-- Ranges and sums over a list, one number at a time: how large a sum is, when it is taken, and the sum of a part.
+-- By the laws of folds. Assumes nothing.
+use Prim.Native.Nat.{ℕ, zero, suc, _+_, _*_, _≤_, _<_}
+use mathlib.Core.Path.{_≡_, refl, sym, ap, _∙_}
+use mathlib.Core.Bool.{Bool, true, false, _&&_}
+use mathlib.Core.List.{List}
+use native.Mathlib.Omega.{arith}
+use lib.IntN.{ℤ, pos, _+ℤ_}
+use lib.ListN.{length, getD, take, drop, length-take, length-drop}
+use lib.Seq.{getD-take, getD-drop}
+use Rattle.whole.specs.Folds.{foldTo, sumTo, allTo, sumOf}
+use Rattle.whole.specs.Whole.{minus, up, down, Within, inRange, allInRange, summable, summed}
+use Rattle.whole.specs.declared.Summed.{Summed}
+use Rattle.whole.proofs.Folds.{all-at, all-of, fold-same}
+use Rattle.whole.proofs.Signed.{inside, opposite, sum}
+
+-- a range about zero that a test found
+pub in-within : {k : ℕ} {z : ℤ} → inRange (minus k) (pos k) z ≡ true → Within k z
+in-within {k} {z} e = let b = inside e in omega (arith, opposite (pos k))
+
+-- the test of a list, at each place, and back
+pub all-inside : (low high : ℤ) (xs : List ℤ) → allInRange low high xs ≡ true → (i : ℕ) → i < length xs → inRange low high (getD xs i (pos 0)) ≡ true
+unfolding allInRange
+all-inside low high xs = all-at (length xs) (λ i. inRange low high (getD xs i (pos 0)))
+
+pub inside-all : (low high : ℤ) (xs : List ℤ) → ((i : ℕ) → i < length xs → inRange low high (getD xs i (pos 0)) ≡ true) → allInRange low high xs ≡ true
+unfolding allInRange
+inside-all low high xs = all-of (length xs) (λ i. inRange low high (getD xs i (pos 0)))
+
+-- a sum of n numbers from -k to k lies within n times k
+pub sum-within : {k : ℕ} (n : ℕ) (f : ℕ → ℤ) → ((i : ℕ) → i < n → Within k (f i)) → Within (k * n) (sumTo n f)
+unfolding foldTo
+sum-within zero f h = omega arith
+sum-within {k} (suc n) f h =
+    let a : Within k (f n) = h n (omega arith) in
+    let r : Within (k * n) (sumTo n f) = sum-within n f (λ i p. h i (omega arith)) in
+    omega (arith, sum (sumTo n f) (f n))
+
+-- a sum that can be taken is
+pub summed-is : (xs : List ℤ) → summable xs ≡ true → summed xs ≡ record { fits = true; sum = sumOf xs }
+unfolding summed
+summed-is xs e = rw e
+
+-- the sum of n numbers from place p on, read off the whole list
+pub sum-part : (xs : List ℤ) (p n : ℕ) → p + n ≤ length xs → sumOf (take n (drop p xs)) ≡ sumTo n (λ k. getD xs (p + k) (pos 0))
+sum-part xs p n h =
+    let e : length (take n (drop p xs)) ≡ n = simp (length-take, length-drop) (omega arith) in
+    ap (λ (m : ℕ). sumTo m (λ i. getD (take n (drop p xs)) i (pos 0))) e
+    ∙ fold-same (pos 0) _+ℤ_ n _ _ (λ k l. getD-take n (drop p xs) k (pos 0) l ∙ getD-drop p xs k (pos 0))

@@ -1,0 +1,6 @@
+-- What the contracts of every crate are made of.
+pub mod Choice
+pub mod Determined
+pub mod Folds
+pub mod Runs
+pub mod Whole
