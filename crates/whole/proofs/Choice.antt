@@ -38,3 +38,19 @@ kept-new {k = k} new old e = rw (eq-eqb k 0 e)
 
 pub kept-old : {A : Type 0} {k : ℕ} (new old : A) → (k ≡ 0 → ⊥) → kept k new old ≡ old
 kept-old {k = k} new old h = rw (ne-eqb k 0 h)
+
+-- what holds of the new where nothing is refused, and of the old, holds of what is kept
+pub kept-any : {A : Type 0} (P : A → Type 0) (k : ℕ) {new old : A} → (k ≡ 0 → P new) → P old → P (kept k new old)
+kept-any P k {new} {old} f g = go (eqb k 0) refl
+  where
+    go : (t : Bool) → eqb k 0 ≡ t → P (pick t new old)
+    go true e = f (eqb-true k 0 e)
+    go false e = g
+
+-- any reading of what is kept
+pub kept-by : {A B : Type 0} (read : A → B) (k : ℕ) {new old : A} {x y : B} → (k ≡ 0 → read new ≡ x) → read old ≡ y → read (kept k new old) ≡ kept k x y
+kept-by read k {new} {old} {x} {y} f g = go (eqb k 0) refl
+  where
+    go : (t : Bool) → eqb k 0 ≡ t → read (pick t new old) ≡ pick t x y
+    go true e = f (eqb-true k 0 e)
+    go false e = g

@@ -1,0 +1,1 @@
+// Demand 3's theory over any ledger: definitions and theorems alone.

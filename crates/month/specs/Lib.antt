@@ -1,0 +1,2 @@
+-- The month ledger.
+pub mod Month

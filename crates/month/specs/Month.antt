@@ -1,0 +1,131 @@
+-- The month ledger (document 01, "The ledger"): its rules, and what each call and read-out answers, as an instance of the theory of any ledger.
+use Prim.Native.Nat.{ℕ}
+use mathlib.Core.Bool.{Bool, true, false, _&&_}
+use mathlib.Core.List.{List, []}
+use lib.Dec.{leb, ltb, eqb}
+use lib.IntN.{ℤ, pos, natAbs}
+use lib.ListN.{getD, replicate}
+use Rattle.whole.specs.Choice.{pick, unless}
+use Rattle.whole.specs.Folds.{allTo}
+use Rattle.whole.specs.Whole.{minus, inRange}
+use Rattle.units.specs.Refusals.{badMoney, notInMonth, notReachable}
+use Rattle.units.specs.declared.Dollars.{Dollars}
+use Rattle.history.specs.Rules.{Call, Rules, placeIn, placesOf}
+use Rattle.history.specs.Board.{Board, wellFormed, rulingOn, handed, refusalOf, nextOf, hourOn, dayOn, totalOn, hoursOn}
+use Rattle.month.specs.declared.Month.{Month}
+use Rattle.month.specs.declared.Head.{Head}
+use Rattle.month.specs.declared.Booked.{Booked}
+use Rattle.month.specs.declared.Headed.{Headed}
+use Rattle.month.specs.declared.Told.{Told}
+use Rattle.month.specs.declared.Counted.{Counted}
+
+-- ---- the rules
+
+-- "A month of 28 to 31 days"
+abbrev pub isDays : ℕ → Bool
+isDays days = leb 28 days && leb days 31
+
+-- "ledger amount outside -10^9 to 10^9"
+abbrev pub amountRefusal : ℤ → ℕ
+amountRefusal amount = unless (inRange (minus 1000000000) (pos 1000000000) amount) badMoney 0
+
+-- "loss fee outside 0 to 10^11"
+abbrev pub feeRefusal : ℤ → ℕ
+feeRefusal fee = unless (inRange (pos 0) (pos 100000000000) fee) badMoney 0
+
+-- "has 744 hour places, all empty at the start"; "hours are 0 to 23"
+abbrev pub monthRules : ℕ → Rules ℤ
+monthRules days =
+    record {
+      opens = isDays days;
+      days = days;
+      hoursOf = λ _. 24;
+      places = 744;
+      blank = pos 0;
+      isBlank = λ amount. eqb (natAbs amount) 0;
+      check = amountRefusal;
+      checkFee = feeRefusal;
+      worth = λ amount. amount;
+    }
+
+-- an hour's place: 24 for each day before, and itself
+abbrev pub placeOf : ℕ → ℕ → ℕ
+placeOf = placeIn (monthRules 31)
+
+-- a filled place is one of the month's and holds an amount; an empty one holds 0 (the board's `fitsAt`, at a place's own mark and amount)
+abbrev pub placeFits : ℕ → ℕ → Bool → ℤ → Bool
+placeFits days p filled amount = pick filled (ltb p (placesOf (monthRules days)) && eqb (amountRefusal amount) 0) (eqb (natAbs amount) 0)
+
+abbrev pub placesFit : ℕ → List Bool → List ℤ → Bool
+placesFit days filled amounts = allTo 744 (λ p. placeFits days p (getD filled p false) (getD amounts p (pos 0)))
+
+-- ---- the ledger as a board, whole and in place
+
+abbrev pub dollars : ℤ → Dollars
+dollars amount = record { 0 = amount }
+
+abbrev pub rulesOf : Month → Rules ℤ
+rulesOf m = monthRules (m .days)
+
+abbrev pub boardOf : Month → Board ℤ
+boardOf m = record { closed = m .closed; fee = m .fee .0; marks = m .filled; items = m .amounts }
+
+abbrev pub monthOf : ℕ → Board ℤ → Month
+monthOf days b = record { days = days; closed = b .closed; fee = dollars (b .fee); filled = b .marks; amounts = b .items }
+
+abbrev pub boardIn : Head → List Bool → List ℤ → Board ℤ
+boardIn head filled amounts = record { closed = head .closed; fee = head .fee .0; marks = filled; items = amounts }
+
+-- ---- the calls
+
+abbrev pub headOf : Month → Head
+headOf m = record { days = m .days; closed = m .closed; fee = m .fee }
+
+-- a refusal's number, and a month of a head and its places
+abbrev pub bookedOf : ℕ → Head → List Bool → List ℤ → Booked
+bookedOf k head filled amounts =
+    record { refusal = k; month = record { days = head .days; closed = head .closed; fee = head .fee; filled = filled; amounts = amounts } }
+
+-- every place empty, no fee, open
+unfoldable pub freshMonth : ℕ → Month
+freshMonth days = record { days = days; closed = false; fee = dollars (pos 0); filled = replicate 744 false; amounts = replicate 744 (pos 0) }
+
+-- a refused open hands back the all-zero ledger
+unfoldable pub openOf : ℕ → Booked
+openOf days = record { refusal = unless (isDays days) notInMonth 0; month = pick (isDays days) (freshMonth days) (freshMonth 0) }
+
+-- any other call: 22, 9, 6, 3, then 7 or 8; a refusal hands the same ledger back
+unfoldable pub answerOf : Month → Call ℤ → Booked
+answerOf m c = record { refusal = refusalOf (rulesOf m) (boardOf m) c; month = monthOf (m .days) (nextOf (rulesOf m) (boardOf m) c) }
+
+-- a call that changes no place, on the head alone
+unfoldable pub headedOf : Head → Call ℤ → Headed
+headedOf head c =
+    let b = boardIn head [] [] in
+    let n = handed (monthRules (head .days)) b c in
+    record { refusal = rulingOn (monthRules (head .days)) b c; head = record { days = head .days; closed = n .closed; fee = dollars (n .fee) } }
+
+-- ---- the read-outs: 22, then what the board tells
+
+abbrev pub toldOf : ℕ × ℤ → Told
+toldOf t = record { refusal = t .0; amount = dollars (t .1) }
+
+abbrev pub orReachable : Month → ℕ × ℤ → Told
+orReachable m t = toldOf (pick (wellFormed (rulesOf m) (boardOf m)) t (notReachable, pos 0))
+
+-- one hour: 22, 6, 8
+unfoldable pub hourOf : Month → ℕ → ℕ → Told
+hourOf m day hour = orReachable m (hourOn (rulesOf m) (boardOf m) day hour)
+
+-- a day's sum: 22, 6
+unfoldable pub dayOf : Month → ℕ → Told
+dayOf m day = orReachable m (dayOn (rulesOf m) (boardOf m) day)
+
+-- the month total: 22
+unfoldable pub totalOf : Month → Told
+totalOf m = orReachable m (0, totalOn (rulesOf m) (boardOf m))
+
+-- the number of standing hours: 22
+unfoldable pub standingOf : Month → Counted
+standingOf m =
+    pick (wellFormed (rulesOf m) (boardOf m)) (record { refusal = 0; hours = hoursOn (rulesOf m) (boardOf m) }) (record { refusal = notReachable; hours = 0 })
