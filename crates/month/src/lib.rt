@@ -3,16 +3,19 @@
 // Each call stands once, in place, on two lent runs (filled marks and amounts, in dollars) with the head by value: `post_in` and so on. The
 // calls on a `Month` by value refuse with 22 a ledger that no run of calls hands back, and go through those.
 ghost use mathlib.Core.Path.{_≡_};
-ghost use mathlib.Core.Bool.{Bool, false};
-ghost use Prim.Native.Nat.{ℕ, _+_, _≤_};
-ghost use lib.IntN.{ℤ, pos};
-ghost use lib.ListN.{getD, set};
+ghost use mathlib.Core.Bool.{false};
+ghost use Prim.Native.Nat.{_+_, _≤_};
+ghost use lib.IntN.{pos, _-ℤ_};
+ghost use lib.ListN.{length, getD, set, take, drop};
+ghost use mir.Syntax.{w64};
+ghost use mir.Val.{SFits};
 ghost use Rattle.whole.specs.Choice.{kept};
-ghost use Rattle.whole.specs.Folds.{countTo, allTo, sumTo};
+ghost use Rattle.whole.specs.Folds.{countTo};
+ghost use Rattle.whole.specs.Whole.{summed};
 ghost use Rattle.history.specs.Rules.{Call, inside, rulingAt};
-ghost use Rattle.history.specs.Board.{told, fitsAt, wellFormed, rulingOn, handed};
+ghost use Rattle.history.specs.Board.{told, wellFormed, rulingOn, handed};
 ghost use Rattle.units.specs.Refusals.{notReachable};
-ghost use Rattle.month.specs.Month.{isDays, placeFits, placesFit, headOf, bookedOf, amountRefusal, feeRefusal, monthRules, placeOf, dollars, rulesOf, boardOf, boardIn, monthOf, freshMonth, openOf, answerOf, headedOf, toldOf, hourOf, dayOf, totalOf, standingOf};
+ghost use Rattle.month.specs.Month.{isDays, placeFits, placesFit, headOf, bookedOf, amountRefusal, feeRefusal, monthRules, placeOf, dollars, rulesOf, boardOf, boardIn, freshMonth, openOf, answerOf, headedOf, toldOf, hourOf, dayOf, totalOf, standingOf};
 use units::Dollars;
 use units::refusals;
 
@@ -290,6 +293,24 @@ fn standing_in(filled: &[bool; Month::PLACES]) -> usize
     n
 }
 
+// The sum of a day's 24 amounts from its first place on.
+fn day_sum(amounts: &[i64], from: usize) -> Dollars
+    requires { ⌜ from + 24 ≤ length (now amounts) ⌝ }
+    ensures { λ r. ⌜ r ≡ dollars (summed (take 24 (drop from (now (amounts .entry)))) .sum) ⌝ }
+{
+    let s = whole::sum(&amounts[from..from + 24]);
+    Dollars(s.sum)
+}
+
+fn less(amount: Dollars, fee: Dollars) -> Dollars
+    requires { ⌜ SFits w64 (amount .0 -ℤ fee .0) ⌝ }
+    ensures { λ r. ⌜ r ≡ dollars (amount .0 -ℤ fee .0) ⌝ }
+{
+    let a = amount.0;
+    let f = fee.0;
+    Dollars(a - f)
+}
+
 // What a call answers, put together from its number, its head and its places.
 fn put_together(
     k: u8,
@@ -489,10 +510,7 @@ impl Month {
         if !in_month(self.days, day, 0) {
             return answer(refusals::NOT_IN_MONTH, Dollars(0));
         }
-        let from = place_of(day, 0);
-        let amounts = self.amounts;
-        let s = whole::sum(&amounts[from..from + 24]);
-        answer(0, Dollars(s.sum))
+        answer(0, day_sum(&self.amounts, place_of(day, 0)))
     }
 
     // The month total: the amounts less the loss fee.
@@ -503,8 +521,7 @@ impl Month {
             return answer(refusals::NOT_REACHABLE, Dollars(0));
         }
         let s = whole::sum(&self.amounts);
-        let fee = self.fee;
-        answer(0, Dollars(s.sum - fee.0))
+        answer(0, less(Dollars(s.sum), self.fee))
     }
 
     // How many hours stand.

@@ -7,7 +7,8 @@ use mathlib.Core.Bool.{Bool, true, false, not, cond, _&&_}
 use Prim.Native.Nat.{ℕ, zero, suc, _+_, _*_, _-_, _≤_, _<_, _^_}
 use native.Mathlib.Omega.{arith}
 use native.Mathlib.Nat.{mul-le-mul}
-use lib.Dec.{T, ltb, leb, ltb→lt, nltb→le, leb→le, le→leb, lt→ltb}
+use borrow.Author.Tests.{ne-eqb}
+use lib.Dec.{T, ltb, leb, eqb, ltb→lt, nltb→le, leb→le, le→leb, lt→ltb}
 use lib.IntN.{ℤ, pos, negsuc, negℤ, natAbs, subℕ, _+ℤ_, _-ℤ_, _*ℤ_}
 use lib.Signed.{mag, nonNeg, ltZ, leZ, natAbs-le, _≤ℤ_, _<ℤ_}
 use mir.Syntax.{Width, w64}
@@ -233,3 +234,8 @@ within-fits w {k} {z} t h = fits-to z (omega (arith, ltb→lt k (2 ^ hbits w) t)
 -- the size of a number that fits, fits the unsigned type
 pub size-fits : {z : ℤ} → SFits w64 z → Fits w64 (natAbs z)
 size-fits {z} f = record { fits = omega (arith, natAbs-le z (f .sfits)) }
+
+-- a number's bits are 0 just where it is
+pub zero-bits : {z : ℤ} → SFits w64 z → eqb (ofZ w64 z) 0 ≡ eqb (natAbs z) 0
+zero-bits {z = pos n} f = refl
+zero-bits {z = negsuc n} f = ne-eqb (2 ^ 64 - suc n) 0 (λ e. let h : n < 2 ^ 63 = f .sfits in omega arith) ∙ sym (ne-eqb (suc n) 0 (λ e. omega arith))

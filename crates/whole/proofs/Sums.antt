@@ -6,17 +6,30 @@ use mathlib.Core.Bool.{Bool, true, false, _&&_}
 use mathlib.Core.List.{List}
 use native.Mathlib.Omega.{arith}
 use lib.IntN.{ℤ, pos, _+ℤ_}
+use lib.Signed.{leZ}
 use lib.ListN.{length, getD, take, drop, length-take, length-drop}
 use lib.Seq.{getD-take, getD-drop}
 use Rattle.whole.specs.Folds.{foldTo, sumTo, allTo, sumOf}
 use Rattle.whole.specs.Whole.{minus, up, down, Within, inRange, allInRange, summable, summed}
 use Rattle.whole.specs.declared.Summed.{Summed}
 use Rattle.whole.proofs.Folds.{all-at, all-of, fold-same}
-use Rattle.whole.proofs.Signed.{inside, opposite, sum}
+use Rattle.whole.proofs.Choice.{both}
+use Rattle.whole.proofs.Signed.{signed, inside, opposite, sum}
 
 -- a range about zero that a test found
 pub in-within : {k : ℕ} {z : ℤ} → inRange (minus k) (pos k) z ≡ true → Within k z
 in-within {k} {z} e = let b = inside e in omega (arith, opposite (pos k))
+
+-- and one of natural numbers
+pub in-within-below : {k : ℕ} {z : ℤ} → inRange (pos 0) (pos k) z ≡ true → Within k z
+in-within-below {k} {z} e = let b = inside e in omega arith
+
+pub within-in : {k : ℕ} {z : ℤ} → Within k z → inRange (minus k) (pos k) z ≡ true
+unfolding inRange
+within-in {k} {z} w =
+    let low : leZ (minus k) z ≡ true = omega (signed, opposite (pos k)) in
+    let high : leZ z (pos k) ≡ true = omega signed in
+    both low high
 
 -- the test of a list, at each place, and back
 pub all-inside : (low high : ℤ) (xs : List ℤ) → allInRange low high xs ≡ true → (i : ℕ) → i < length xs → inRange low high (getD xs i (pos 0)) ≡ true

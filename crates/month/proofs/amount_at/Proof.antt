@@ -1,22 +1,26 @@
+-- `month::amount_at` meets its contract: past the end `getD` gives the default. Assumes nothing.
+use mathlib.Core.Path.{_≡_, refl, sym, ap, ap₂, _∙_}
+use native.Mathlib.Omega.{arith}
+use Prim.Native.Nat.{_≤_}
+use lib.IntN.{pos}
+use lib.ListN.{length, List·getD-eq-default}
+use Rattle.month.specs.Month.{dollars}
 use borrow.Author.Needs.{needs}
 use Rattle.month.proofs.amount_at.Statement.{statement}
 use Rattle.month.proofs.amount_at.Tie as tie
-use Rattle.month.proofs.amount_at.Reads as reads
-use Rattle.month.proofs.amount_at.Lts as lts
 
--- src/lib.rt:109:9
 returns : tie.Need-returns
-returns c = ?
+returns c =
+    let a = c .before .args in
+    let out : length (a .amounts .now) ≤ a .at = omega arith in
+    ap dollars (sym (List·getD-eq-default (a .amounts .now) (pos 0) out))
 
--- src/lib.rt:111:13
 mul-a : tie.Need-mul-a
 mul-a c = search needs
 
--- src/lib.rt:111:13
 shared-slice-copy-out-a : tie.Need-shared-slice-copy-out-a
 shared-slice-copy-out-a c = search needs
 
--- src/lib.rt:105:1
 returns-2 : tie.Need-returns-2
 returns-2 c = search needs
 

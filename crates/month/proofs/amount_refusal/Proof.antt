@@ -1,22 +1,25 @@
+-- `month::amount_refusal` meets its contract: the test is the definition's, at the number itself. Assumes nothing.
+use mathlib.Core.Path.{_≡_, refl, sym, ap, ap₂, _∙_}
+use mir.Syntax.{w64}
+use mir.Val.{SFits}
+use mir.Facts.{toZ-ofZ}
 use borrow.Author.Needs.{needs}
 use Rattle.month.proofs.amount_refusal.Statement.{statement}
 use Rattle.month.proofs.amount_refusal.Tie as tie
-use Rattle.month.proofs.amount_refusal.Reads as reads
-use Rattle.month.proofs.amount_refusal.Lts as lts
-use Rattle.whole.proofs.unless.Reads as unless-reads
-use Rattle.whole.proofs.within.Reads as within-reads
 
--- src/lib.rt:73:9
 within-requires : tie.Need-within-requires
 within-requires c κs = search needs
 
--- src/lib.rt:72:5
 unless-requires : tie.Need-unless-requires
 unless-requires c κs = search needs
 
--- src/lib.rt:68:1
+fits : (c : tie.After-struct-told) → SFits w64 (c .before .args .amount .0)
+fits c = search needs
+
 returns : tie.Need-returns
-returns c = ?
+returns c =
+    let f : SFits w64 (c .before .before .before .args .amount .0) = fits (c .before .before) in
+    cc (toZ-ofZ f)
 
 pub amount-refusal-spec : {M : Type 1} → statement M
 amount-refusal-spec = tie.close (tie.spec within-requires unless-requires returns)

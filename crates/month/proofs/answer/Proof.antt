@@ -1,15 +1,13 @@
+-- `month::answer` meets its contract: by its one test. Assumes nothing.
+use borrow.Author.Tests.{eq-eqb, ne-eqb}
 use Rattle.month.proofs.answer.Statement.{statement}
 use Rattle.month.proofs.answer.Tie as tie
-use Rattle.month.proofs.answer.Reads as reads
-use Rattle.month.proofs.answer.Lts as lts
 
--- src/lib.rt:320:9
 returns : tie.Need-returns
-returns c = ?
+returns c = simp (eq-eqb _ _ (c .if1 .taken))
 
--- src/lib.rt:316:1
 returns-2 : tie.Need-returns-2
-returns-2 c = ?
+returns-2 c = simp (ne-eqb _ _ (c .if1 .left))
 
 pub answer-spec : {M : Type 1} → statement M
 answer-spec = tie.close (tie.spec returns returns-2)

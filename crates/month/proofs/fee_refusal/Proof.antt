@@ -1,22 +1,25 @@
+-- `month::fee_refusal` meets its contract: the test is the definition's, at the number itself. Assumes nothing.
+use mathlib.Core.Path.{_≡_, refl, sym, ap, ap₂, _∙_}
+use mir.Syntax.{w64}
+use mir.Val.{SFits}
+use mir.Facts.{toZ-ofZ}
 use borrow.Author.Needs.{needs}
 use Rattle.month.proofs.fee_refusal.Statement.{statement}
 use Rattle.month.proofs.fee_refusal.Tie as tie
-use Rattle.month.proofs.fee_refusal.Reads as reads
-use Rattle.month.proofs.fee_refusal.Lts as lts
-use Rattle.whole.proofs.unless.Reads as unless-reads
-use Rattle.whole.proofs.within.Reads as within-reads
 
--- src/lib.rt:83:19
 within-requires : tie.Need-within-requires
 within-requires c κs = search needs
 
--- src/lib.rt:83:5
 unless-requires : tie.Need-unless-requires
 unless-requires c κs = search needs
 
--- src/lib.rt:79:1
+fits : (c : tie.After-struct-told) → SFits w64 (c .before .args .fee .0)
+fits c = search needs
+
 returns : tie.Need-returns
-returns c = ?
+returns c =
+    let f : SFits w64 (c .before .before .before .args .fee .0) = fits (c .before .before) in
+    cc (toZ-ofZ f)
 
 pub fee-refusal-spec : {M : Type 1} → statement M
 fee-refusal-spec = tie.close (tie.spec within-requires unless-requires returns)

@@ -1,18 +1,22 @@
+-- `month::filled_at` meets its contract: past the end `getD` gives the default. Assumes nothing.
+use mathlib.Core.Path.{_≡_, refl, sym, ap, ap₂, _∙_}
+use mathlib.Core.Bool.{false}
+use native.Mathlib.Omega.{arith}
+use Prim.Native.Nat.{_≤_}
+use lib.ListN.{length, List·getD-eq-default}
 use borrow.Author.Needs.{needs}
 use Rattle.month.proofs.filled_at.Statement.{statement}
 use Rattle.month.proofs.filled_at.Tie as tie
-use Rattle.month.proofs.filled_at.Reads as reads
-use Rattle.month.proofs.filled_at.Lts as lts
 
--- src/lib.rt:100:9
 returns : tie.Need-returns
-returns c = ?
+returns c =
+    let a = c .before .args in
+    let out : length (a .filled .now) ≤ a .at = omega arith in
+    sym (List·getD-eq-default (a .filled .now) false out)
 
--- src/lib.rt:102:5
 shared-slice-read-result : tie.Need-shared-slice-read-result
 shared-slice-read-result c = search needs
 
--- src/lib.rt:96:1
 returns-2 : tie.Need-returns-2
 returns-2 c = search needs
 

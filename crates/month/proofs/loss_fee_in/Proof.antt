@@ -1,26 +1,31 @@
+-- `month::loss_fee_in` meets its contract: by its one test. Assumes nothing.
+use mathlib.Core.Path.{_≡_, sym, _∙_}
+use mathlib.Core.Bool.{not}
+use borrow.Author.Tests.{eq-eqb, ne-eqb}
+use Rattle.whole.specs.Choice.{unless}
+use Rattle.units.specs.Refusals.{monthClosed}
+use Rattle.history.specs.Board.{rulingOn, nextOn, handed}
+use Rattle.month.specs.Month.{feeRefusal, headedOf}
 use borrow.Author.Needs.{needs}
 use Rattle.month.proofs.loss_fee_in.Statement.{statement}
 use Rattle.month.proofs.loss_fee_in.Tie as tie
-use Rattle.month.proofs.loss_fee_in.Reads as reads
-use Rattle.month.proofs.loss_fee_in.Lts as lts
-use Rattle.month.proofs.fee_refusal.Reads as fee-refusal-reads
-use Rattle.whole.proofs.unless.Reads as unless-reads
 
--- src/lib.rt:217:65
 fee-refusal-requires : tie.Need-fee-refusal-requires
 fee-refusal-requires c κs = search needs
 
--- src/lib.rt:217:9
 unless-requires : tie.Need-unless-requires
 unless-requires c κs = search needs
 
--- src/lib.rt:224:9
-returns : tie.Need-returns
-returns c = ?
+number : (c : tie.After-unless) → let a = c .before .before .before .args in c .unless .result ≡ unless (not (a .head .closed)) monthClosed (feeRefusal (a .amount .0))
+number c = cc
 
--- src/lib.rt:214:1
+returns : tie.Need-returns
+unfolding headedOf rulingOn nextOn handed
+returns c = let n = number (c .before) in rw (n, eq-eqb _ 0 (sym n ∙ c .if1 .taken))
+
 returns-2 : tie.Need-returns-2
-returns-2 c = ?
+unfolding headedOf rulingOn nextOn handed
+returns-2 c = let n = number (c .before) in rw (n, ne-eqb _ 0 (λ z. c .if1 .left (n ∙ z)))
 
 pub loss-fee-in-spec : {M : Type 1} → statement M
 loss-fee-in-spec = tie.close (tie.spec fee-refusal-requires unless-requires returns returns-2)

@@ -1,54 +1,81 @@
+-- `month::places_fit` meets its contract. The loop's invariant: every place passed fits. Assumes nothing.
+use Prim.Native.Nat.{ℕ, _+_, _-_, _≤_}
+use mathlib.Core.Path.{_≡_, sym, ap, _∙_}
+use mathlib.Core.Bool.{Bool, true, false, _&&_}
+use mathlib.Core.List.{List}
+use native.Mathlib.Omega.{arith}
+use lib.IntN.{ℤ, pos}
+use lib.ListN.{getD}
+use mir.Syntax.{w64}
+use mir.Val.{SFits}
+use mir.Facts.{toZ-ofZ}
+use borrow.Author.Needs.{needs}
+use borrow.Author.Tests.{not-true, not-false}
+use Rattle.whole.specs.Folds.{allTo}
+use Rattle.whole.proofs.Choice.{both}
+use Rattle.whole.proofs.Folds.{fold-none, fold-step, all-fails}
+use Rattle.month.specs.Month.{placeFits}
 use Rattle.month.proofs.places_fit.Statement.{statement}
 use Rattle.month.proofs.places_fit.Tie as tie
-use Rattle.month.proofs.places_fit.Reads as reads
-use Rattle.month.proofs.places_fit.Lts as lts
-use Rattle.month.proofs.place_fits.Reads as place-fits-reads
+
+abbrev fits : ℕ → List Bool → List ℤ → ℕ → Bool
+fits days filled amounts p = placeFits days p (getD filled p false) (getD amounts p (pos 0))
+
+
 
 abbrev Inv-loop : tie.InvT-loop
-Inv-loop days filled amounts p₀ p = ?
+Inv-loop days filled amounts p₀ p = (p ≤ 744) × (allTo p (fits days filled amounts) ≡ true)
 
 abbrev μ-loop : tie.MeasureT-loop
-μ-loop days filled amounts p₀ p = ?
+μ-loop days filled amounts p₀ p = 744 - p
 
--- src/lib.rt:271:5
 loop-holds : tie.Need-loop-holds Inv-loop μ-loop
-loop-holds c = ?
+loop-holds c = (omega arith, fold-none true _&&_ _)
 
--- src/lib.rt:272:17
 mul-a : tie.Need-mul-a Inv-loop μ-loop
-mul-a c = ?
+mul-a c = omega arith
 
--- src/lib.rt:272:17
 element-copy-out-a : tie.Need-element-copy-out-a Inv-loop μ-loop
-element-copy-out-a c = ?
+element-copy-out-a c = omega arith
 
--- src/lib.rt:273:33
 element-copy-out-place-fits : tie.Need-element-copy-out-place-fits Inv-loop μ-loop
-element-copy-out-place-fits c = ?
+element-copy-out-place-fits c = omega arith
 
--- src/lib.rt:273:13
 place-fits-requires : tie.Need-place-fits-requires Inv-loop μ-loop
-place-fits-requires c κs = ?
+place-fits-requires c κs = search needs
 
--- src/lib.rt:274:13
+amount-fits : (c : tie.After-a Inv-loop μ-loop) → SFits w64 (getD (c .before .before .before .args .amounts .now) (c .before .before .loop .p) (pos 0))
+amount-fits c = search needs
+
+-- what the place's test found
+judged : (c : tie.After-place-fits Inv-loop μ-loop) →
+    let l = c .before .before .before .before in
+    let a = l .before .args in
+    c .place-fits .result ≡ fits (a .days) (a .filled .now) (a .amounts .now) (l .loop .p)
+judged c =
+    let l = c .before .before .before .before in
+    let a = l .before .args in
+    let p = l .loop .p in
+    c .place-fits .ensures ∙ ap (placeFits (a .days) p (getD (a .filled .now) p false)) (toZ-ofZ (amount-fits (c .before .before)))
+
 returns : tie.Need-returns Inv-loop μ-loop
-returns c = ?
+returns c =
+    let l = c .before .before .before .before .before in
+    sym (all-fails 744 _ (l .loop .p) (omega arith) (sym (judged (c .before)) ∙ not-true _ (c .if1 .taken)))
 
--- src/lib.rt:276:9
 add-p : tie.Need-add-p Inv-loop μ-loop
-add-p c = ?
+add-p c = omega arith
 
--- src/lib.rt:271:5
 loop-less : tie.Need-loop-less Inv-loop μ-loop
-loop-less c = ?
+loop-less c = omega arith
 
--- src/lib.rt:271:5
 loop-again : tie.Need-loop-again Inv-loop μ-loop
-loop-again c = ?
+loop-again c =
+    let l = c .before .before .before .before .before in
+    (omega arith, fold-step true _&&_ _ _ ∙ both (l .loop .inv .1) (sym (judged (c .before)) ∙ not-false _ (c .if1 .left)))
 
--- src/lib.rt:263:1
 returns-2 : tie.Need-returns-2 Inv-loop μ-loop
-returns-2 c = ?
+returns-2 c = let e : c .before .loop .p ≡ 744 = omega arith in sym (rw e at (c .before .loop .inv .1))
 
 pub places-fit-spec : {M : Type 1} → statement M
 places-fit-spec =

@@ -1,45 +1,50 @@
+-- `month::standing_in` meets its contract. The loop's invariant: n is the count so far. Assumes nothing.
+use Prim.Native.Nat.{ℕ, _+_, _-_, _≤_}
+use mathlib.Core.Path.{_≡_, sym}
+use mathlib.Core.Bool.{Bool, true, false}
+use native.Mathlib.Omega.{arith}
+use lib.ListN.{getD}
+use borrow.Author.Needs.{needs}
+use Rattle.whole.specs.Choice.{pick}
+use Rattle.whole.specs.Folds.{countTo}
+use Rattle.whole.proofs.Folds.{fold-none, fold-step}
+use Rattle.month.proofs.Core.{byte-is, byte-le}
 use Rattle.month.proofs.standing_in.Statement.{statement}
 use Rattle.month.proofs.standing_in.Tie as tie
-use Rattle.month.proofs.standing_in.Reads as reads
-use Rattle.month.proofs.standing_in.Lts as lts
 
 abbrev Inv-loop : tie.InvT-loop
-Inv-loop filled n₀ p₀ n p = ?
+Inv-loop filled n₀ p₀ n p = (p ≤ 744) × (n ≤ p) × (n ≡ countTo p (λ q. getD filled q false))
 
 abbrev μ-loop : tie.MeasureT-loop
-μ-loop filled n₀ p₀ n p = ?
+μ-loop filled n₀ p₀ n p = 744 - p
 
--- src/lib.rt:286:5
 loop-holds : tie.Need-loop-holds Inv-loop μ-loop
-loop-holds c = ?
+loop-holds c = (omega arith, omega arith, sym (fold-none 0 _+_ _))
 
--- src/lib.rt:287:14
 element-copy-out-n : tie.Need-element-copy-out-n Inv-loop μ-loop
-element-copy-out-n c = ?
+element-copy-out-n c = omega arith
 
--- src/lib.rt:287:14
 cast-n : tie.Need-cast-n Inv-loop μ-loop
-cast-n c = ?
+cast-n c = search needs
 
--- src/lib.rt:287:9
 add-n : tie.Need-add-n Inv-loop μ-loop
-add-n c = ?
+add-n c = let b = getD (c .before .before .before .args .filled .now) (c .before .before .loop .p) false in record { fits = omega (arith, byte-le b) }
 
--- src/lib.rt:288:9
 add-p : tie.Need-add-p Inv-loop μ-loop
-add-p c = ?
+add-p c = omega arith
 
--- src/lib.rt:286:5
 loop-less : tie.Need-loop-less Inv-loop μ-loop
-loop-less c = ?
+loop-less c = omega arith
 
--- src/lib.rt:286:5
 loop-again : tie.Need-loop-again Inv-loop μ-loop
-loop-again c = ?
+loop-again c =
+    let l = c .before .before in
+    let fs = l .before .args .filled .now in
+    let b = getD fs (l .loop .p) false in
+    (omega arith, omega (arith, byte-le b), omega (arith, byte-is b, fold-step 0 _+_ (l .loop .p) (λ q. pick (getD fs q false) 1 0)))
 
--- src/lib.rt:281:1
 returns : tie.Need-returns Inv-loop μ-loop
-returns c = ?
+returns c = let e : c .before .loop .p ≡ 744 = omega arith in rw e at (c .before .loop .inv .2)
 
 pub standing-in-spec : {M : Type 1} → statement M
 standing-in-spec =

@@ -1,40 +1,51 @@
+-- `month::withdraw_in` meets its contract: the number is the definition's by its tests, and `placing` keeps or sets the places. Assumes nothing.
+use mathlib.Core.Bool.{Bool}
+use mathlib.Core.Path.{_≡_, refl, sym, ap, _∙_}
+use Prim.Native.Nat.{ℕ}
+use mathlib.Core.Bool.{true, false, not}
+use Rattle.whole.specs.Choice.{unless, orElse}
+use Rattle.history.specs.Rules.{Call, rulingAt}
+use Rattle.history.specs.Board.{rulingOn, nextOn}
+use Rattle.month.specs.Month.{amountRefusal, placeOf, monthRules, boardIn}
+use Rattle.month.proofs.Core.{placing-hands}
+use lib.IntN.{pos}
+use lib.ListN.{getD}
+use Rattle.units.specs.Refusals.{placeEmpty}
 use borrow.Author.Needs.{needs}
 use Rattle.month.proofs.withdraw_in.Statement.{statement}
 use Rattle.month.proofs.withdraw_in.Tie as tie
-use Rattle.month.proofs.withdraw_in.Reads as reads
-use Rattle.month.proofs.withdraw_in.Lts as lts
-use Rattle.month.proofs.filled_at.Reads as filled-at-reads
-use Rattle.month.proofs.place_of.Reads as place-of-reads
-use Rattle.month.proofs.placing.Reads as placing-reads
-use Rattle.whole.proofs.unless.Reads as unless-reads
 
--- src/lib.rt:208:35
 place-of-requires : tie.Need-place-of-requires
 place-of-requires c κs = search needs
 
--- src/lib.rt:208:9
 filled-at-requires : tie.Need-filled-at-requires
 filled-at-requires c κs = search needs
 
--- src/lib.rt:209:9
 unless-requires : tie.Need-unless-requires
 unless-requires c κs = search needs
 
--- src/lib.rt:210:5
 placing-requires : tie.Need-placing-requires
 placing-requires c κs = search needs
 
--- src/lib.rt:204:1
 same-length : tie.Need-same-length
 same-length c = search needs
 
--- src/lib.rt:204:1
 same-length-2 : tie.Need-same-length-2
 same-length-2 c = search needs
 
--- src/lib.rt:204:1
 returns : tie.Need-returns
-returns c = ?
+unfolding rulingOn nextOn
+returns c =
+    let p = c .before .before .before in
+    let u = p .before .before .before in
+    let f = u .before in
+    let a = f .before .before .before .before .args in
+    let taken = f .filled-at .ensures ∙ ap (λ (i : ℕ). getD (a .filled .now) i false) (f .before .place-of .ensures) in
+    let rest = u .unless .ensures ∙ ap (λ (m : Bool). unless m placeEmpty 0) taken in
+    let number = ap (rulingAt (monthRules (a .head .days)) (a .head .closed) (a .day) (a .hour)) rest in
+    (p .placing .ensures .0 ∙ number,
+    placing-hands (a .head) (a .filled .now) _ (a .amounts .now) _ (Call.withdraw (a .day) (a .hour)) _ (placeOf (a .day) (a .hour)) false (pos 0)
+    (sym number) refl (p .placing .ensures .1 .0) (p .placing .ensures .1 .1))
 
 pub withdraw-in-spec : {M : Type 1} → statement M
 withdraw-in-spec =

@@ -1,0 +1,57 @@
+-- `Month::loss_fee` meets its contract: 22, and then the call on the head. Assumes nothing.
+use mathlib.Core.Path.{_≡_, refl, sym, ap, _∙_}
+use mathlib.Core.Bool.{true, false}
+use borrow.Author.Tests.{not-true, not-false}
+use Rattle.history.specs.Rules.{Call}
+use Rattle.history.specs.Board.{wellFormed}
+use Rattle.month.specs.Month.{rulesOf, boardOf, headOf, bookedOf, headedOf}
+use Rattle.month.specs.declared.Head.{Head}
+use Rattle.month.specs.declared.Headed.{Headed}
+use Rattle.month.proofs.Core.{answer-22, answer-in, heads-fee}
+use borrow.Author.Needs.{needs}
+use Rattle.month.proofs.Month.loss_fee.Statement.{statement}
+use Rattle.month.proofs.Month.loss_fee.Tie as tie
+
+well-formed-requires : tie.Need-well-formed-requires
+well-formed-requires c κs = search needs
+
+unreachable-requires : tie.Need-unreachable-requires
+unreachable-requires c κs = search needs
+
+returns : tie.Need-returns
+returns c = c .unreachable .ensures ∙ answer-22 _ _ (sym (c .before .before .well-formed .ensures) ∙ not-true _ (c .before .if1 .taken))
+
+head-requires : tie.Need-head-requires
+head-requires c κs = search needs
+
+loss-fee-in-requires : tie.Need-loss-fee-in-requires
+loss-fee-in-requires c κs = search needs
+
+put-together-requires : tie.Need-put-together-requires
+put-together-requires c κs = search needs
+
+returns-2 : tie.Need-returns-2
+returns-2 c =
+    let n = c .before .before in
+    let h = n .before in
+    let e = h .before .before .before in
+    let a = e .before .before .args in
+    let m = a .self in
+    let call = Call.lossFee (a .amount .0) in
+    let well : wellFormed (rulesOf m) (boardOf m) ≡ true = sym (e .before .well-formed .ensures) ∙ not-false _ (e .if1 .left) in
+    let heads = heads-fee (headOf m) (m .filled) (m .amounts) (a .amount .0) in
+    c .put-together .ensures
+    ∙ ap (λ (x : Headed). bookedOf (x .refusal) (x .head) (m .filled) (m .amounts)) (n .loss-fee-in .ensures ∙ ap (λ (x : Head). headedOf x call) (h .head .ensures))
+    ∙ answer-in m call _ _ _ _ well (heads .number) (heads .board) (heads .days)
+
+pub loss-fee-spec : {M : Type 1} → statement M
+loss-fee-spec =
+    tie.close
+    (tie.spec
+    well-formed-requires
+    unreachable-requires
+    returns
+    head-requires
+    loss-fee-in-requires
+    put-together-requires
+    returns-2)

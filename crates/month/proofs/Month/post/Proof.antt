@@ -1,0 +1,61 @@
+-- `Month::post` meets its contract: 22, and then the call in place. Assumes nothing.
+use mathlib.Core.Path.{_≡_, refl, sym, ap, _∙_}
+use mathlib.Core.Bool.{true, false}
+use borrow.Author.Tests.{not-true, not-false}
+use Rattle.history.specs.Rules.{Call}
+use Rattle.history.specs.Board.{wellFormed}
+use Rattle.month.specs.Month.{rulesOf, boardOf, headOf}
+use Rattle.month.proofs.Core.{answer-22, answer-in}
+use borrow.Author.Needs.{needs}
+use Rattle.month.proofs.Month.post.Statement.{statement}
+use Rattle.month.proofs.Month.post.Tie as tie
+
+well-formed-requires : tie.Need-well-formed-requires
+well-formed-requires c κs = search needs
+
+unreachable-requires : tie.Need-unreachable-requires
+unreachable-requires c κs = search needs
+
+returns : tie.Need-returns
+returns c = c .unreachable .ensures ∙ answer-22 _ _ (sym (c .before .before .well-formed .ensures) ∙ not-true _ (c .before .if1 .taken))
+
+head-requires : tie.Need-head-requires
+head-requires c κs = search needs
+
+slice-aggregate-post-in : tie.Need-slice-aggregate-post-in
+slice-aggregate-post-in c = search needs
+
+slice-aggregate-post-in-2 : tie.Need-slice-aggregate-post-in-2
+slice-aggregate-post-in-2 c = search needs
+
+post-in-requires : tie.Need-post-in-requires
+post-in-requires c κs = search needs
+
+put-together-requires : tie.Need-put-together-requires
+put-together-requires c κs = search needs
+
+returns-2 : tie.Need-returns-2
+returns-2 c =
+    let p = c .before .before .before in
+    let h = p .before .before .before .before .before in
+    let e = h .before in
+    let a = e .before .before .args in
+    let well : wellFormed (rulesOf (a .self)) (boardOf (a .self)) ≡ true = sym (e .before .well-formed .ensures) ∙ not-false _ (e .if1 .left) in
+    let number = rw (h .head .ensures) at (p .post-in .ensures .0) in
+    let board = rw (h .head .ensures) at (p .post-in .ensures .1) in
+    (rw (h .head .ensures) at (c .put-together .ensures))
+    ∙ answer-in (a .self) (Call.post (a .day) (a .hour) (a .amount .0)) _ (headOf (a .self)) _ _ well number board refl
+
+pub post-spec : {M : Type 1} → statement M
+post-spec =
+    tie.close
+    (tie.spec
+    well-formed-requires
+    unreachable-requires
+    returns
+    head-requires
+    slice-aggregate-post-in
+    slice-aggregate-post-in-2
+    post-in-requires
+    put-together-requires
+    returns-2)
