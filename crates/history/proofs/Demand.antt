@@ -20,17 +20,20 @@ pub record Stepped {A : Type 0} (R : Rules A) (b : Board A) (c : Call A) (k : �
   pub board : n ≡ handed R b c
 
 -- a state's rules and board, and that the contracts say what the definitions on the board say
-pub record Lawful {A S : Type 0} (L : Ledger A S) : Type 1 where
+pub record Lawful {P A S : Type 0} (L : Ledger P A S) : Type 1 where
   pub rules : S → Rules A
   pub board : S → Board A
-  pub opens : (R : Rules A) (s : S) → L .Opens R s → (rules s ≡ R) × (board s ≡ fresh R)
+  pub opens : (p : P) (s : S) → L .Opens p s → (rules s ≡ L .rules p) × (board s ≡ fresh (L .rules p))
   pub answers : (s : S) (c : Call A) (k : ℕ) (t : S) → wellFormed (rules s) (board s) ≡ true → L .Answers s c k t → Stepped (rules s) (board s) c k (rules t) (board t)
   pub hour : (s : S) (d x : ℕ) (r : ℕ × ℤ) → wellFormed (rules s) (board s) ≡ true → L .Hour s d x r → r ≡ hourOn (rules s) (board s) d x
   pub day : (s : S) (d : ℕ) (r : ℕ × ℤ) → wellFormed (rules s) (board s) ≡ true → L .Day s d r → r ≡ dayOn (rules s) (board s) d
   pub total : (s : S) (r : ℕ × ℤ) → wellFormed (rules s) (board s) ≡ true → L .Total s r → r ≡ (0, totalOn (rules s) (board s))
   pub hours : (s : S) (r : ℕ × ℕ) → wellFormed (rules s) (board s) ≡ true → L .Hours s r → r ≡ (0, hoursOn (rules s) (board s))
 
-module _ {A S : Type 0} (L : Ledger A S) (laws : Lawful L) (R : Rules A) (sound : Sound R) where
+module _ {P A S : Type 0} (L : Ledger P A S) (laws : Lawful L) (p : P) (sound : Sound (L .rules p)) where
+  abbrev R : Rules A
+  R = L .rules p
+
   -- what a run has come to
   pub record Come (h : List (Entry A)) (s : S) : Type 0 where
     pub rules : laws .rules s ≡ R
@@ -41,9 +44,9 @@ module _ {A S : Type 0} (L : Ledger A S) (laws : Lawful L) (R : Rules A) (sound 
   pub well : (h : List (Entry A)) (s : S) → Come h s → wellFormed (laws .rules s) (laws .board s) ≡ true
   well h s c = subst⁻¹ (λ Q. wellFormed Q (laws .board s) ≡ true) (c .rules) (good-well R sound (laws .board s) (c .told .good))
 
-  pub come : (h : List (Entry A)) (s : S) → Run L R h s → Come h s
+  pub come : (h : List (Entry A)) (s : S) → Run L p h s → Come h s
   come h s (opened _ o) =
-      let e = laws .opens R s o in
+      let e = laws .opens p s o in
       record { rules = e .0; told = subst⁻¹ (Told R []) (e .1) (start-told R sound); ruled = tt }
   come h t (called g s c k _ run a) =
       let b = laws .board s in
@@ -57,7 +60,7 @@ module _ {A S : Type 0} (L : Ledger A S) (laws : Lawful L) (R : Rules A) (sound 
         ruled = (number ∙ ruled R g b (before .told) c, before .ruled);
       }
 
-  pub demand3 : (h : List (Entry A)) (s : S) → Run L R h s → Demand3 L R h s
+  pub demand3 : (h : List (Entry A)) (s : S) → Run L p h s → Demand3 L p h s
   demand3 h s run =
       let c = come h s run in
       let b = laws .board s in

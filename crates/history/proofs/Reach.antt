@@ -143,30 +143,33 @@ module _ {A : Type 0} (R : Rules A) where
 -- ---- a ledger's own runs
 
 -- an answer that meets a contract, for every call; and a state is told by its rules and its board
-pub record Able {A S : Type 0} (L : Ledger A S) (laws : Lawful L) (R : Rules A) : Type 0 where
+pub record Able {P A S : Type 0} (L : Ledger P A S) (laws : Lawful L) (p : P) : Type 0 where
   pub first : S
-  pub opens : L .Opens R first
+  pub opens : L .Opens p first
   pub number : S → Call A → ℕ
   pub next : S → Call A → S
   pub answers : (s : S) (c : Call A) → L .Answers s c (number s c) (next s c)
   pub same : (s t : S) → laws .rules s ≡ laws .rules t → laws .board s ≡ laws .board t → s ≡ t
 
-module _ {A S : Type 0} (L : Ledger A S) (laws : Lawful L) (R : Rules A) (sound : Sound R) where
+module _ {P A S : Type 0} (L : Ledger P A S) (laws : Lawful L) (p : P) (sound : Sound (L .rules p)) where
+  abbrev R : Rules A
+  R = L .rules p
+
   -- a run of the ledger's answers for each list of calls
   pub record Ran (cs : List (Call A)) : Type 0 where
     pub state : S
     pub history : List (Entry A)
-    pub run : Run L R history state
+    pub run : Run L p history state
     pub board : laws .board state ≡ boardRun R cs
 
-  ran : Able L laws R → (cs : List (Call A)) → Ran cs
+  ran : Able L laws p → (cs : List (Call A)) → Ran cs
   unfolding boardRun
-  ran able [] = record { state = able .first; history = []; run = opened (able .first) (able .opens); board = laws .opens R (able .first) (able .opens) .1 }
+  ran able [] = record { state = able .first; history = []; run = opened (able .first) (able .opens); board = laws .opens p (able .first) (able .opens) .1 }
   ran able (c ∷ cs) =
       let r = ran able cs in
       let s = r .state in
-      let w = come L laws R sound (r .history) s (r .run) in
-      let step = laws .answers s c (able .number s c) (able .next s c) (well L laws R sound (r .history) s w) (able .answers s c) in
+      let w = come L laws p sound (r .history) s (r .run) in
+      let step = laws .answers s c (able .number s c) (able .next s c) (well L laws p sound (r .history) s w) (able .answers s c) in
       record {
         state = able .next s c;
         history = record { call = c; answer = able .number s c } ∷ r .history;
@@ -175,10 +178,10 @@ module _ {A S : Type 0} (L : Ledger A S) (laws : Lawful L) (R : Rules A) (sound 
       }
 
   -- a state in form is reachable
-  pub reached : Able L laws R → (s : S) → laws .rules s ≡ R → Good R (laws .board s) → Reachable L s
+  pub reached : Able L laws p → (s : S) → laws .rules s ≡ R → Good R (laws .board s) → Reachable L s
   reached able s e g =
       let b = built R sound (laws .board s) g in
       let r = ran able (b .calls) in
-      let c = come L laws R sound (r .history) (r .state) (r .run) in
+      let c = come L laws p sound (r .history) (r .state) (r .run) in
       let same : r .state ≡ s = able .same (r .state) s (c .rules ∙ sym e) (r .board ∙ b .comes) in
-      record { rules = R; history = r .history; run = subst (Run L R (r .history)) same (r .run) }
+      record { plan = p; history = r .history; run = subst (Run L p (r .history)) same (r .run) }

@@ -3,3 +3,6 @@ mod Core
 mod Sound
 mod Sums
 mod Readouts
+pub mod Demand
+pub mod Reach
+mod Determined

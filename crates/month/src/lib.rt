@@ -478,9 +478,9 @@ impl Month {
         }
         let filled = self.filled;
         let amounts = self.amounts;
-        let next = close_in(self.head());
-        let head = next.head;
-        put_together(next.refusal, head, filled, amounts)
+        let shut = close_in(self.head());
+        let head = shut.head;
+        put_together(shut.refusal, head, filled, amounts)
     }
 
     // One hour's amount.
@@ -490,14 +490,14 @@ impl Month {
         if !self.well_formed() {
             return answer(refusals::NOT_REACHABLE, Dollars(0));
         }
-        let at = place_of(day, hour);
-        let place = whole::unless(filled_at(&self.filled, at), refusals::PLACE_EMPTY, 0);
+        let here = place_of(day, hour);
+        let place = whole::unless(filled_at(&self.filled, here), refusals::PLACE_EMPTY, 0);
         let k = whole::unless(
             in_month(self.days, day, hour),
             refusals::NOT_IN_MONTH,
             place,
         );
-        answer(k, amount_at(&self.amounts, at))
+        answer(k, amount_at(&self.amounts, here))
     }
 
     // A day's sum.

@@ -21,8 +21,6 @@ use Rattle.month.proofs.places_fit.Tie as tie
 abbrev fits : ℕ → List Bool → List ℤ → ℕ → Bool
 fits days filled amounts p = placeFits days p (getD filled p false) (getD amounts p (pos 0))
 
-
-
 abbrev Inv-loop : tie.InvT-loop
 Inv-loop days filled amounts p₀ p = (p ≤ 744) × (allTo p (fits days filled amounts) ≡ true)
 

@@ -34,10 +34,13 @@ returns c =
     let p = m .before .before in
     let o = p .before .before in
     let a = o .before .before .args in
-    let zero = sym (o .ruling-at .ensures) ∙ p .before .if1 .taken in
-    (o .ruling-at .ensures,
-    (m .mark .ensures ∙ ap (λ (i : ℕ). set (a .filled .now) i (a .fill)) (p .place-of .ensures) ∙ sym (kept-new _ _ zero),
-    w .write .ensures ∙ ap (λ (i : ℕ). set (a .amounts .now) i (a .amount .0)) (p .place-of .ensures) ∙ sym (kept-new _ _ zero)))
+    let zero = sym (o .ruling-at .ensures) ∙ p .before .if1 .taken in (
+      o .ruling-at .ensures,
+      (
+        m .mark .ensures ∙ ap (λ (i : ℕ). set (a .filled .now) i (a .fill)) (p .place-of .ensures) ∙ sym (kept-new _ _ zero),
+        w .write .ensures ∙ ap (λ (i : ℕ). set (a .amounts .now) i (a .amount .0)) (p .place-of .ensures) ∙ sym (kept-new _ _ zero),
+      ),
+    )
 
 returns-2 : tie.Need-returns-2
 returns-2 c =

@@ -57,10 +57,11 @@ returns c =
     let p = c .before .before .before in
     let o = p .before .before .before in
     let a = o .before .before .before .before .before .before .before .args in
-    let number = ap (rulingAt (monthRules (a .head .days)) (a .head .closed) (a .day) (a .hour)) (rest o) in
-    (p .placing .ensures .0 ∙ number,
-    placing-hands (a .head) (a .filled .now) _ (a .amounts .now) _ (Call.replace (a .day) (a .hour) (a .amount .0)) _ (placeOf (a .day) (a .hour)) true (a .amount .0)
-    (sym number) refl (p .placing .ensures .1 .0) (p .placing .ensures .1 .1))
+    let number = ap (rulingAt (monthRules (a .head .days)) (a .head .closed) (a .day) (a .hour)) (rest o) in (
+      p .placing .ensures .0 ∙ number,
+      placing-hands (a .head) (a .filled .now) _ (a .amounts .now) _ (Call.replace (a .day) (a .hour) (a .amount .0)) _ (placeOf (a .day) (a .hour)) true (a .amount .0)
+          (sym number) refl (p .placing .ensures .1 .0) (p .placing .ensures .1 .1),
+    )
 
 pub replace-in-spec : {M : Type 1} → statement M
 replace-in-spec =

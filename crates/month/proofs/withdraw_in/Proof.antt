@@ -42,10 +42,11 @@ returns c =
     let a = f .before .before .before .before .args in
     let taken = f .filled-at .ensures ∙ ap (λ (i : ℕ). getD (a .filled .now) i false) (f .before .place-of .ensures) in
     let rest = u .unless .ensures ∙ ap (λ (m : Bool). unless m placeEmpty 0) taken in
-    let number = ap (rulingAt (monthRules (a .head .days)) (a .head .closed) (a .day) (a .hour)) rest in
-    (p .placing .ensures .0 ∙ number,
-    placing-hands (a .head) (a .filled .now) _ (a .amounts .now) _ (Call.withdraw (a .day) (a .hour)) _ (placeOf (a .day) (a .hour)) false (pos 0)
-    (sym number) refl (p .placing .ensures .1 .0) (p .placing .ensures .1 .1))
+    let number = ap (rulingAt (monthRules (a .head .days)) (a .head .closed) (a .day) (a .hour)) rest in (
+      p .placing .ensures .0 ∙ number,
+      placing-hands (a .head) (a .filled .now) _ (a .amounts .now) _ (Call.withdraw (a .day) (a .hour)) _ (placeOf (a .day) (a .hour)) false (pos 0)
+          (sym number) refl (p .placing .ensures .1 .0) (p .placing .ensures .1 .1),
+    )
 
 pub withdraw-in-spec : {M : Type 1} → statement M
 withdraw-in-spec =

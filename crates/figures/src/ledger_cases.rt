@@ -1,0 +1,154 @@
+// The month ledger: the cases that a desk would try by hand.
+use crate::text;
+use month::Month;
+use units::Dollars;
+
+// A call's refusal, then the month total after it.
+fn book(label: &[u8], answer: month::Booked) -> Month {
+    let m = answer.month;
+    io::write_all(1, label);
+    text::number(answer.refusal as i64);
+    let t = m.total();
+    let amount = t.amount;
+    text::number(t.refusal as i64);
+    text::number(amount.0);
+    text::end();
+    m
+}
+
+// Every read-out of a ledger: hour 10 of day 3, day 3, the total and the standing hours, each with its refusal first.
+fn read_out(m: Month) {
+    io::write_all(1, b"read-outs");
+    let h = m.hour(3, 10);
+    let hour = h.amount;
+    text::number(h.refusal as i64);
+    text::number(hour.0);
+    let d = m.day(3);
+    let day = d.amount;
+    text::number(d.refusal as i64);
+    text::number(day.0);
+    let t = m.total();
+    let total = t.amount;
+    text::number(t.refusal as i64);
+    text::number(total.0);
+    let s = m.standing();
+    text::number(s.refusal as i64);
+    io::write_all(1, b" ");
+    io::print_decimal(1, s.hours as u64);
+    text::end();
+}
+
+// Document 01's sample, a withdrawn hour that posts again, and a closed month.
+pub fn a_month() {
+    text::heading(b"a month by hand");
+    let m = book(b"open 31", Month::open(31));
+    let m = book(b"post", m.post(3, 10, Dollars(7_800)));
+    let m = book(b"post again", m.post(3, 10, Dollars(6_280)));
+    let m = book(b"loss fee", m.loss_fee(Dollars(8_658)));
+    read_out(m);
+    let m = book(b"replace", m.replace(3, 10, Dollars(6_280)));
+    let m = book(b"withdraw", m.withdraw(3, 10));
+    let m = book(b"withdraw empty", m.withdraw(3, 10));
+    let m = book(b"replace empty", m.replace(3, 10, Dollars(1)));
+    let m = book(b"post withdrawn", m.post(3, 10, Dollars(-5)));
+    let m = book(b"loss fee again", m.loss_fee(Dollars(100)));
+    read_out(m);
+    let m = book(b"close", m.close());
+    let m = book(b"close closed", m.close());
+    let m = book(b"post closed", m.post(4, 0, Dollars(1)));
+    let m = book(b"replace closed", m.replace(3, 10, Dollars(1)));
+    let m = book(b"withdraw closed", m.withdraw(3, 10));
+    let m = book(b"fee closed", m.loss_fee(Dollars(1)));
+    read_out(m);
+}
+
+// Days, hours, amounts and fees at and past their limits.
+pub fn limits() {
+    text::heading(b"the ledger at and past the limits");
+    book(b"open 27", Month::open(27));
+    book(b"open 28", Month::open(28));
+    book(b"open 32", Month::open(32));
+    book(b"open 255", Month::open(255));
+    let m = book(b"open 30", Month::open(30));
+    book(b"day 0", m.post(0, 0, Dollars(1)));
+    book(b"day 30", m.post(30, 23, Dollars(1)));
+    book(b"day 31", m.post(31, 0, Dollars(1)));
+    book(b"hour 24", m.post(1, 24, Dollars(1)));
+    book(b"day 255 hour 255", m.post(255, 255, Dollars(1)));
+    book(b"amount least", m.post(1, 0, Dollars(-1_000_000_000)));
+    book(b"amount below", m.post(1, 0, Dollars(-1_000_000_001)));
+    book(b"amount most", m.post(1, 0, Dollars(1_000_000_000)));
+    book(b"amount above", m.post(1, 0, Dollars(1_000_000_001)));
+    book(b"amount i64", m.post(1, 0, Dollars(i64::MIN)));
+    book(b"fee zero", m.loss_fee(Dollars(0)));
+    book(b"fee below", m.loss_fee(Dollars(-1)));
+    book(b"fee most", m.loss_fee(Dollars(100_000_000_000)));
+    book(b"fee above", m.loss_fee(Dollars(100_000_000_001)));
+    book(b"fee i64", m.loss_fee(Dollars(i64::MAX)));
+}
+
+// A month with every hour posted.
+fn full(amount: i64) -> Month {
+    let opened = Month::open(31);
+    let mut m = opened.month;
+    for day in 1..32 {
+        for hour in 0..24 {
+            let b = m.post(day, hour, Dollars(amount));
+            m = b.month;
+        }
+    }
+    m
+}
+
+pub fn largest() {
+    text::heading(b"the largest month");
+    let most = full(1_000_000_000);
+    book(
+        b"most and the largest fee",
+        most.loss_fee(Dollars(100_000_000_000)),
+    );
+    read_out(most);
+    let least = full(-1_000_000_000);
+    book(
+        b"least and the largest fee",
+        least.loss_fee(Dollars(100_000_000_000)),
+    );
+    read_out(least);
+}
+
+// A ledger that no run of calls hands back: every call and every read-out is 22.
+fn forge(label: &[u8], m: Month) {
+    text::heading(label);
+    book(b"post", m.post(3, 10, Dollars(1)));
+    book(b"replace", m.replace(3, 10, Dollars(1)));
+    book(b"withdraw", m.withdraw(3, 10));
+    book(b"loss fee", m.loss_fee(Dollars(1)));
+    book(b"close", m.close());
+    read_out(m);
+}
+
+fn opened(days: u8) -> Month {
+    let b = Month::open(days);
+    b.month
+}
+
+pub fn forged() {
+    let mut m = opened(30);
+    m.amounts[0] = 1;
+    forge(b"forged: an amount in an empty place", m);
+    let mut m = opened(30);
+    m.filled[720] = true;
+    forge(b"forged: a filled place past the month's end", m);
+    let mut m = opened(30);
+    m.days = 27;
+    forge(b"forged: 27 days", m);
+    let mut m = opened(30);
+    let fee = Dollars(-1);
+    m.fee = fee;
+    forge(b"forged: a fee below 0", m);
+    let mut m = opened(30);
+    m.filled[5] = true;
+    m.amounts[5] = 1_000_000_001;
+    forge(b"forged: an amount past the limit", m);
+    forge(b"forged: what a refused open hands back", opened(0));
+}
