@@ -1,0 +1,129 @@
+-- The ways out of the three calls, each with the tests that lead there; and the twelve bytes, put into a run. By the definitions' tests.
+-- Assumes nothing.
+use Prim.Native.Nat.{ℕ, suc, _+_, _-_, _%_, _≤_}
+use native.Mathlib.Omega.{arith}
+use mathlib.Core.Path.{_≡_, refl, ap, _∙_}
+use mathlib.Core.Bool.{true, false}
+use mathlib.Core.List.{List, [], _∷_, _++_, append-nil}
+use lib.ListN.{length, getD, take, drop, set, drop-of-length-le, length-set}
+use lib.Seq.{drop-cons, length-take-le, set-at, take-at}
+use borrow.Author.Tests.{ne-eqb, eq-eqb}
+use borrow.Rule.Slice.PartMut.{putMid, midOf, same-len-mid}
+use Rattle.whole.proofs.Choice.{kept-new}
+use Rattle.units.specs.Refusals.{wrongLength, badDigit, badSum, badKind}
+use Rattle.frame.specs.Digits.{allDigits, bytesOf}
+use Rattle.frame.specs.Numbers.{bytesIn, byteSum}
+use Rattle.frame.specs.Frame.{checked, lineRefusal, zeros, openedOf, inForm, entryOf, readRefusal, readingOf, bodyOf, summed, lineOf, writeRefusal, written}
+use Rattle.frame.specs.declared.Entry.{Entry}
+use Rattle.frame.specs.declared.Opened.{Opened}
+use Rattle.frame.specs.declared.Reading.{Reading}
+use Rattle.frame.specs.declared.Reading.the-variants.{Frame, Refused}
+
+-- ---- out of `open_line`
+
+abbrev pub away : ℕ → Opened
+away k = record { refusal = k; bytes = zeros }
+
+module _ (line : List ℕ) where
+  pub opened-length : (length line ≡ 24 → ⊥) → away wrongLength ≡ openedOf line
+  unfolding openedOf lineRefusal
+  opened-length h = rw (ne-eqb (length line) 24 h)
+
+  pub opened-digit : length line ≡ 24 → allDigits line ≡ false → away badDigit ≡ openedOf line
+  unfolding openedOf lineRefusal
+  opened-digit h d = rw (eq-eqb (length line) 24 h, d)
+
+  pub opened-sum : (bytes : List ℕ) → length line ≡ 24 → allDigits line ≡ true → bytes ≡ bytesOf line → checked bytes ≡ false → away badSum ≡ openedOf line
+  unfolding openedOf lineRefusal
+  opened-sum bytes h d e s = rw (eq-eqb (length line) 24 h, d, rw e at s)
+
+  pub opened-right : (bytes : List ℕ) → length line ≡ 24 → allDigits line ≡ true → bytes ≡ bytesOf line → checked bytes ≡ true
+      → _≡_ {A = Opened} (record { refusal = 0; bytes = bytes }) (openedOf line)
+  unfolding openedOf lineRefusal
+  opened-right bytes h d e s = rw (eq-eqb (length line) 24 h, d, rw e at s, e)
+
+  -- what the answer holds
+  pub opened-number : openedOf line .refusal ≡ lineRefusal line
+  unfolding openedOf
+  opened-number = refl
+
+  pub opened-bytes : lineRefusal line ≡ 0 → openedOf line .bytes ≡ bytesOf line
+  unfolding openedOf
+  opened-bytes e = kept-new (bytesOf line) zeros e
+
+  -- ---- out of `read_frame`
+
+  pub reading-line : (lineRefusal line ≡ 0 → ⊥) → Refused (lineRefusal line) ≡ readingOf line
+  unfolding readingOf readRefusal
+  reading-line h = let n = ne-eqb (lineRefusal line) 0 h in rw (n, n)
+
+  pub reading-form : lineRefusal line ≡ 0 → inForm (entryOf (bytesOf line)) ≡ false → Refused badKind ≡ readingOf line
+  unfolding readingOf readRefusal
+  reading-form h f = rw (eq-eqb (lineRefusal line) 0 h, f)
+
+  pub reading-entry : lineRefusal line ≡ 0 → inForm (entryOf (bytesOf line)) ≡ true → Frame (entryOf (bytesOf line)) ≡ readingOf line
+  unfolding readingOf readRefusal
+  reading-entry h f = rw (eq-eqb (lineRefusal line) 0 h, f)
+
+-- ---- out of `write_frame`
+
+module _ (entry : Entry) (run : List ℕ) where
+  pub write-length : (length run ≡ 24 → ⊥) → (wrongLength ≡ writeRefusal entry (length run)) × (run ≡ written entry run)
+  unfolding writeRefusal written
+  write-length h = rw (ne-eqb (length run) 24 h) (refl, refl)
+
+  pub write-form : length run ≡ 24 → inForm entry ≡ false → (badKind ≡ writeRefusal entry (length run)) × (run ≡ written entry run)
+  unfolding writeRefusal written
+  write-form h f = rw (eq-eqb (length run) 24 h, f) (refl, refl)
+
+  pub write-right : (line : List ℕ) → length run ≡ 24 → inForm entry ≡ true → line ≡ lineOf entry
+      → (0 ≡ writeRefusal entry (length run)) × (line ≡ written entry run)
+  unfolding writeRefusal written
+  write-right line h f e = rw (eq-eqb (length run) 24 h, f) (refl, e)
+
+-- ---- twelve bytes in a run
+
+pub eleven : (l : List ℕ) → length l ≡ 12 → length (take 11 l) ≡ 11
+eleven l e = length-take-le 11 l (omega arith)
+
+pub length-body : (entry : Entry) → length (bodyOf entry) ≡ 11
+unfolding bodyOf
+length-body entry = refl
+
+-- three bytes, and a number after them
+abbrev three : List ℕ → ℕ → ℕ → ℕ → List ℕ
+three b k d h = set (set (set b 0 k) 1 d) 2 h
+
+pub put-three : (w : ℕ) (b : List ℕ) (k d h n : ℕ) → length b ≡ 3 + w
+    → putMid 3 (length (three b k d h) - 3) (three b k d h) (bytesIn (length (midOf 3 (length (three b k d h) - 3) (three b k d h))) n) ≡ k ∷ d ∷ h ∷ bytesIn w n
+put-three w [] k d h n e = absurd (omega arith)
+put-three w (x ∷ []) k d h n e = absurd (omega arith)
+put-three w (x ∷ y ∷ []) k d h n e = absurd (omega arith)
+put-three w (x ∷ y ∷ z ∷ r) k d h n e =
+    let q : suc (suc (suc (length r))) - 3 ≡ w = omega arith in
+    let l : w ≤ length r = omega arith in
+    let g : length r ≤ w = omega arith in
+    ap (λ (i : ℕ). k ∷ d ∷ h ∷ (bytesIn (length (take i r)) n ++ drop i r)) q
+    ∙ rw (length-take-le w r l, drop-of-length-le r g, append-nil)
+
+pub same-three : (b m : List ℕ) (k d h : ℕ) → length m ≡ length (midOf 3 (length (three b k d h) - 3) (three b k d h))
+    → length (putMid 3 (length (three b k d h) - 3) (three b k d h) m) ≡ length b
+same-three b m k d h e = same-len-mid 3 (length (three b k d h) - 3) (three b k d h) m e ∙ simp length-set
+
+-- eleven bytes, and their sum after them
+module _ (bytes body : List ℕ) (twelve : length bytes ≡ 12) (same : length body ≡ length (take 11 bytes)) where
+  eleven-body : length body ≡ 11
+  eleven-body = same ∙ eleven bytes twelve
+
+  take-body : take 11 (body ++ drop 11 bytes) ≡ body
+  take-body = take-at body (drop 11 bytes) 11 eleven-body
+
+  pub length-taken : length (take 11 (body ++ drop 11 bytes)) ≡ 11
+  length-taken = ap length take-body ∙ eleven-body
+
+  pub put-sum : (s : ℕ) → s ≡ byteSum (take 11 (body ++ drop 11 bytes)) % 256 → set (body ++ drop 11 bytes) 11 s ≡ summed body
+  unfolding summed
+  put-sum s h =
+      let d : drop 11 bytes ≡ getD bytes 11 0 ∷ [] =
+      drop-cons bytes 11 0 (omega arith) ∙ ap (λ (r : List ℕ). getD bytes 11 0 ∷ r) (drop-of-length-le bytes {i = 12} (omega arith)) in
+      ap (λ (r : List ℕ). set (body ++ r) 11 s) d ∙ set-at body (getD bytes 11 0) [] s 11 eleven-body ∙ rw (h, take-body)

@@ -1,0 +1,67 @@
+-- `frame::read_frame` meets its contract: the line's refusal first, and then the form of the entry that its bytes hold. Assumes nothing.
+use mathlib.Core.Path.{_≡_, sym, ap, _∙_}
+use borrow.Author.Tests.{not-true, not-false}
+use Rattle.frame.specs.Digits.{bytesOf}
+use Rattle.frame.specs.Frame.{lineRefusal, inForm, entryOf}
+use Rattle.frame.specs.declared.Opened.{Opened}
+use Rattle.frame.specs.declared.Reading.the-variants.{Frame}
+use Rattle.frame.proofs.Frames.{opened-number, opened-bytes, reading-line, reading-form, reading-entry}
+use borrow.Author.Needs.{needs}
+use Rattle.frame.proofs.read_frame.Statement.{statement}
+use Rattle.frame.proofs.read_frame.Tie as tie
+use Rattle.frame.proofs.read_frame.Reads as reads
+use Rattle.frame.proofs.read_frame.Lts as lts
+use Rattle.frame.proofs.entry_of.Reads as entry-of-reads
+use Rattle.frame.proofs.in_form.Reads as in-form-reads
+use Rattle.frame.proofs.open_line.Reads as open-line-reads
+
+open-line-requires : tie.Need-open-line-requires
+open-line-requires c κs = search needs
+
+-- what the line's own refusal is
+found : (c : tie.After-open-line) → c .open-line .result .refusal ≡ lineRefusal (c .before .before .args .line .now)
+found c = ap (λ (o : Opened). o .refusal) (c .open-line .ensures) ∙ opened-number _
+
+returns : tie.Need-returns
+returns c = rw (found (c .before)) (reading-line _ (λ e. c .if1 .taken (found (c .before) ∙ e)))
+
+slice-aggregate-entry-of : tie.Need-slice-aggregate-entry-of
+slice-aggregate-entry-of c = search needs
+
+entry-of-requires : tie.Need-entry-of-requires
+entry-of-requires c κs = search needs
+
+in-form-requires : tie.Need-in-form-requires
+in-form-requires c κs = search needs
+
+-- the entry is that of the line's bytes
+held : (c : tie.After-entry-of) → let o = c .before .before .before .before in c .entry-of .result ≡ entryOf (bytesOf (o .before .before .args .line .now))
+held c =
+    let e = c .before .before .before in
+    let o = e .before in
+    c .entry-of .ensures ∙ ap entryOf (ap (λ (p : Opened). p .bytes) (o .open-line .ensures) ∙ opened-bytes _ (sym (found o) ∙ e .if1 .left))
+
+returns-2 : tie.Need-returns-2
+returns-2 c =
+    let f = c .before in
+    let e = f .before .before .before .before in
+    reading-form _ (sym (found (e .before)) ∙ e .if1 .left) (ap inForm (sym (held (f .before))) ∙ sym (f .in-form .ensures) ∙ not-true _ (c .if2 .taken))
+
+returns-3 : tie.Need-returns-3
+returns-3 c =
+    let f = c .before in
+    let e = f .before .before .before .before in
+    ap Frame (held (f .before))
+    ∙ reading-entry _ (sym (found (e .before)) ∙ e .if1 .left) (ap inForm (sym (held (f .before))) ∙ sym (f .in-form .ensures) ∙ not-false _ (c .if2 .left))
+
+pub read-frame-spec : {M : Type 1} → statement M
+read-frame-spec =
+    tie.close
+    (tie.spec
+    open-line-requires
+    returns
+    slice-aggregate-entry-of
+    entry-of-requires
+    in-form-requires
+    returns-2
+    returns-3)

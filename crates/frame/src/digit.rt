@@ -1,0 +1,89 @@
+// Digits and bytes: a byte is two digits 0-9 A-F, the higher first.
+ghost use Prim.Native.Nat.{_+_, _*_, _<_};
+ghost use mathlib.Core.Path.{_≡_};
+ghost use mathlib.Core.Bool.{true};
+ghost use lib.ListN.{length};
+ghost use Rattle.frame.specs.Digits.{digitOf, valueOf, isDigit, allDigits, digitsOf, bytesOf};
+
+const DIGITS: [u8; 16] = [
+    b'0',
+    b'1',
+    b'2',
+    b'3',
+    b'4',
+    b'5',
+    b'6',
+    b'7',
+    b'8',
+    b'9',
+    b'A',
+    b'B',
+    b'C',
+    b'D',
+    b'E',
+    b'F',
+];
+
+// The digit of a value. No other function knows how it is found.
+fn digit(value: u8) -> u8
+    requires { ⌜ value < 16 ⌝ }
+    ensures { λ r. ⌜ r ≡ digitOf value ⌝ }
+{
+    DIGITS[value as usize]
+}
+
+// Whether a byte of a line is a digit that is allowed.
+fn is_digit(d: u8) -> bool
+    ensures { λ r. ⌜ r ≡ isDigit d ⌝ }
+{
+    (48 <= d) & (d < 58) | (65 <= d) & (d < 71)
+}
+
+// The value of a digit.
+fn value(d: u8) -> u8
+    requires { ⌜ isDigit d ≡ true ⌝ }
+    ensures { λ r. ⌜ r ≡ valueOf d ⌝ }
+{
+    if d < 65 { d - 48 } else { d - 55 }
+}
+
+// The byte of two digits.
+fn byte(high: u8, low: u8) -> u8
+    requires { ⌜ isDigit high ≡ true ⌝ }
+    requires { ⌜ isDigit low ≡ true ⌝ }
+    ensures { λ r. ⌜ r ≡ valueOf high * 16 + valueOf low ⌝ }
+{
+    value(high) * 16 + value(low)
+}
+
+// Whether a line has only digits that are allowed; where it has, its bytes.
+pub(crate) fn decode(line: &[u8], bytes: &mut [u8]) -> bool
+    requires { ⌜ length (now line) ≡ 2 * length (now bytes) ⌝ }
+    ensures { λ r. ⌜ (r ≡ allDigits (now (line .entry))) × (r ≡ true → now (bytes .exit) ≡ bytesOf (now (line .entry))) ⌝ }
+{
+    let mut i = 0;
+    while i < bytes.len() {
+        let high = line[2 * i];
+        let low = line[2 * i + 1];
+        if !(is_digit(high) & is_digit(low)) {
+            return false;
+        }
+        bytes[i] = byte(high, low);
+        i += 1;
+    }
+    true
+}
+
+// The digits of bytes.
+pub(crate) fn encode(bytes: &[u8], line: &mut [u8])
+    requires { ⌜ length (now line) ≡ 2 * length (now bytes) ⌝ }
+    ensures { λ _. ⌜ now (line .exit) ≡ digitsOf (now (bytes .entry)) ⌝ }
+{
+    let mut i = 0;
+    while i < bytes.len() {
+        let b = bytes[i];
+        line[2 * i] = digit(b / 16);
+        line[2 * i + 1] = digit(b % 16);
+        i += 1;
+    }
+}
