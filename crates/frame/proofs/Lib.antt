@@ -3,3 +3,7 @@ pub mod Numbers
 pub mod Digits
 mod Words
 pub mod Frames
+pub mod Lines
+pub mod RoundTrip
+mod Contracts
+mod Determined

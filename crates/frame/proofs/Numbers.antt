@@ -13,7 +13,7 @@ use lib.ListN.{length, getD, take, drop, set, length-append, length-set}
 use lib.Seq.{drop-cons, drop-length, drop-set-lt, getD-set-same}
 use mir.Syntax.{w8}
 use mir.Val.{Fits}
-use borrow.Author.Tests.{lt-ltb, le-ltb}
+use borrow.Author.Tests.{lt-ltb, le-ltb, ltb-true, ltb-false}
 use Rattle.whole.specs.Choice.{pick}
 use Rattle.whole.proofs.Runs.{rest, no-rest}
 use Rattle.frame.specs.Numbers.{bytesIn, numberAfter, numberOf, twosIn, signedIn, byteSum}
@@ -120,6 +120,20 @@ pub twos-below : (k : ℕ) (z : ℤ) → mag z < 256 ^ k → twosIn k z < 256 ^ 
 unfolding twosIn
 twos-below k (pos n) h = h
 twos-below k (negsuc n) h = omega arith
+
+-- what is read back lies in the signed range of that width
+signed-picked : (h n : ℕ) → n < 2 * h → (t : Bool) → ltb n h ≡ t → mag (pick t (pos n) (negsuc (2 * h - suc n))) < h
+signed-picked h n l true e = ltb-true n h e
+signed-picked h n l false e = omega (arith, ltb-false n h e)
+
+pub signed-below : (k n : ℕ) → n < 256 ^ suc k → mag (signedIn (suc k) n) < 256 ^ suc k / 2
+unfolding signedIn
+signed-below k n h =
+    let e : 256 ^ suc k ≡ 256 ^ k * 256 = pow-suc 256 k in
+    let m : 256 ^ suc k ≡ 2 * (256 ^ suc k / 2) = omega arith in
+    let l : n < 2 * (256 ^ suc k / 2) = omega arith in
+    subst (λ (w : ℕ). mag (pick (ltb n (256 ^ suc k / 2)) (pos n) (negsuc (w - suc n))) < 256 ^ suc k / 2) (sym m)
+    (signed-picked (256 ^ suc k / 2) n l (ltb n (256 ^ suc k / 2)) refl)
 
 -- ---- loops: the number of the bytes read, from the front
 
