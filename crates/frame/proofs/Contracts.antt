@@ -11,7 +11,7 @@ use denote.Triple.Clauses.{AtExit}
 use borrow.Fn.Kinds.{Dens, GoodsP, endedOf}
 use Rattle.units.proofs.Dollars as dollars
 use Rattle.units.proofs.Dollars.Laws as dollars-laws
-use Rattle.frame.specs.Frame.{readingOf, writeRefusal}
+use Rattle.frame.specs.Frame.{readingOf}
 use Rattle.frame.specs.declared.Reading.{Reading}
 use Rattle.frame.specs.declared.Reading.the-variants.{Frame}
 use Rattle.frame.proofs.Entry as entry

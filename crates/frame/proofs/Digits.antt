@@ -1,6 +1,6 @@
 -- Digits and values, bytes and their two digits, each way and back, for lines of any length; and what a loop over a line has left. A single
 -- digit by computing every one of them, a line by induction. Assumes nothing.
-use Prim.Native.Nat.{ℕ, zero, suc, _+_, _-_, _*_, _/_, _%_, _<_, _≤_}
+use Prim.Native.Nat.{ℕ, _+_, _-_, _*_, _/_, _%_, _<_, _≤_}
 use native.Mathlib.Omega.{arith}
 use native.Mathlib.Numerals.{add-one}
 use mathlib.Core.Path.{_≡_, refl, sym, ap, _∙_, subst}
@@ -162,7 +162,7 @@ module _ (l run : List ℕ) (n i : ℕ) (even : length l ≡ 2 * n) (same : leng
 
 -- bytes are encoded into a run, two digits from a byte
 module _ (bs run : List ℕ) (n i : ℕ) (even : n ≡ 2 * length bs) (same : length run ≡ n)
-  (left : take (2 * i) run ++ digitsOf (drop i bs) ≡ digitsOf bs) where
+    (left : take (2 * i) run ++ digitsOf (drop i bs) ≡ digitsOf bs) where
   pub encode-next : i < length bs
       → take (2 * (i + 1)) (set (set run (2 * i) (digitOf (getD bs i 0 / 16))) (2 * i + 1) (digitOf (getD bs i 0 % 16))) ++ digitsOf (drop (i + 1) bs) ≡ digitsOf bs
   encode-next h =

@@ -2,21 +2,22 @@
 -- Assumes nothing.
 use Prim.Native.Nat.{ℕ, suc, _+_, _-_, _%_, _≤_}
 use native.Mathlib.Omega.{arith}
-use mathlib.Core.Path.{_≡_, refl, ap, _∙_}
+use mathlib.Core.Path.{_≡_, refl, sym, ap, _∙_}
 use mathlib.Core.Bool.{true, false}
 use mathlib.Core.List.{List, [], _∷_, _++_, append-nil}
+use lib.Dec.{eqb}
 use lib.ListN.{length, getD, take, drop, set, drop-of-length-le, length-set}
 use lib.Seq.{drop-cons, length-take-le, set-at, take-at}
-use borrow.Author.Tests.{ne-eqb, eq-eqb}
+use borrow.Author.Tests.{ne-eqb, eq-eqb, eqb-true}
 use borrow.Rule.Slice.PartMut.{putMid, midOf, same-len-mid}
-use Rattle.whole.proofs.Choice.{kept-new}
+use Rattle.whole.specs.Choice.{unless}
+use Rattle.whole.proofs.Choice.{passed, kept-new, kept-old}
 use Rattle.units.specs.Refusals.{wrongLength, badDigit, badSum, badKind}
 use Rattle.frame.specs.Digits.{allDigits, bytesOf}
 use Rattle.frame.specs.Numbers.{bytesIn, byteSum}
 use Rattle.frame.specs.Frame.{checked, lineRefusal, zeros, openedOf, inForm, entryOf, readRefusal, readingOf, bodyOf, summed, lineOf, writeRefusal, written}
 use Rattle.frame.specs.declared.Entry.{Entry}
 use Rattle.frame.specs.declared.Opened.{Opened}
-use Rattle.frame.specs.declared.Reading.{Reading}
 use Rattle.frame.specs.declared.Reading.the-variants.{Frame, Refused}
 
 -- ---- out of `open_line`
@@ -68,18 +69,24 @@ module _ (line : List ℕ) where
 -- ---- out of `write_frame`
 
 module _ (entry : Entry) (run : List ℕ) where
-  pub write-length : (length run ≡ 24 → ⊥) → (wrongLength ≡ writeRefusal entry (length run)) × (run ≡ written entry run)
-  unfolding writeRefusal written
-  write-length h = rw (ne-eqb (length run) 24 h) (refl, refl)
+  pub write-refused : (writeRefusal entry (length run) ≡ 0 → ⊥) → run ≡ written entry run
+  unfolding written
+  write-refused h = sym (kept-old (lineOf entry) run h)
 
-  pub write-form : length run ≡ 24 → inForm entry ≡ false → (badKind ≡ writeRefusal entry (length run)) × (run ≡ written entry run)
-  unfolding writeRefusal written
-  write-form h f = rw (eq-eqb (length run) 24 h, f) (refl, refl)
+  pub write-right : writeRefusal entry (length run) ≡ 0 → lineOf entry ≡ written entry run
+  unfolding written
+  write-right h = sym (kept-new (lineOf entry) run h)
 
-  pub write-right : (line : List ℕ) → length run ≡ 24 → inForm entry ≡ true → line ≡ lineOf entry
-      → (0 ≡ writeRefusal entry (length run)) × (line ≡ written entry run)
-  unfolding writeRefusal written
-  write-right line h f e = rw (eq-eqb (length run) 24 h, f) (refl, e)
+  -- what it takes
+  pub taken : writeRefusal entry (length run) ≡ 0 → (length run ≡ 24) × (inForm entry ≡ true)
+  unfolding writeRefusal
+  taken h =
+      let a = passed (eqb (length run) 24) 0 (unless (inForm entry) badKind 0) h in
+      (eqb-true (length run) 24 (a .0), passed (inForm entry) 12 0 (a .1) .0)
+
+  pub takes : length run ≡ 24 → inForm entry ≡ true → writeRefusal entry (length run) ≡ 0
+  unfolding writeRefusal
+  takes h f = rw (eq-eqb (length run) 24 h, f)
 
 -- ---- twelve bytes in a run
 

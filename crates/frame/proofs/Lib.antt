@@ -5,5 +5,6 @@ mod Words
 pub mod Frames
 pub mod Lines
 pub mod RoundTrip
+mod Samples
 mod Contracts
 mod Determined

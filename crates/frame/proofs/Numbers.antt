@@ -50,14 +50,6 @@ bytes-known (b ∷ bs) f = (f 0 .fits, bytes-known bs (λ (i : ℕ). f (suc i)))
 
 -- ---- a number below 256 ^ k and its k bytes
 
-pub length-bytes : (k n : ℕ) → length (bytesIn k n) ≡ k
-length-bytes zero n = refl
-length-bytes (suc k) n = length-append (bytesIn k (n / 256)) (n % 256 ∷ []) ∙ omega (arith, length-bytes k (n / 256))
-
-pub bytes-are : (k n : ℕ) → Bytes (bytesIn k n)
-bytes-are zero n = tt
-bytes-are (suc k) n = bytes-append (bytesIn k (n / 256)) (n % 256 ∷ []) (bytes-are k (n / 256)) (omega arith, tt)
-
 number-last : (n b : ℕ) (bs : List ℕ) → numberAfter n (bs ++ (b ∷ [])) ≡ numberAfter n bs * 256 + b
 number-last n b [] = refl
 number-last n b (x ∷ bs) = number-last (n * 256 + x) b bs
@@ -69,6 +61,14 @@ number-bytes (suc k) n h =
     number-last 0 (n % 256) (bytesIn k (n / 256))
     ∙ ap (λ (m : ℕ). m * 256 + n % 256) (number-bytes k (n / 256) (omega (arith, pow-suc 256 k)))
     ∙ omega arith
+
+pub length-bytes : (k n : ℕ) → length (bytesIn k n) ≡ k
+length-bytes zero n = refl
+length-bytes (suc k) n = length-append (bytesIn k (n / 256)) (n % 256 ∷ []) ∙ omega (arith, length-bytes k (n / 256))
+
+pub bytes-are : (k n : ℕ) → Bytes (bytesIn k n)
+bytes-are zero n = tt
+bytes-are (suc k) n = bytes-append (bytesIn k (n / 256)) (n % 256 ∷ []) (bytes-are k (n / 256)) (omega arith, tt)
 
 bytes-more : (k n b : ℕ) → b < 256 → bytesIn (suc k) (n * 256 + b) ≡ bytesIn k n ++ (b ∷ [])
 bytes-more k n b h =

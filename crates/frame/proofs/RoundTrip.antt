@@ -7,24 +7,23 @@ use mathlib.Core.Bool.{Bool, true, false}
 use mathlib.Core.List.{List, [], _∷_, _++_}
 use lib.Dec.{eqb}
 use lib.IntN.{ℤ}
-use lib.ListN.{length, getD, take, drop, length-drop}
+use lib.ListN.{length, take, drop, length-drop}
 use lib.Seq.{take-at, length-take-le}
 use mir.Syntax.{w64}
 use mir.Val.{SFits}
-use borrow.Author.Tests.{eq-eqb, ne-eqb, eqb-true}
-use Rattle.whole.specs.Choice.{pick, unless, orElse}
-use Rattle.whole.proofs.Choice.{by-test, clash, both-passed, kept-new}
+use borrow.Author.Tests.{eq-eqb, eqb-true}
+use Rattle.whole.specs.Choice.{pick, unless}
+use Rattle.whole.proofs.Choice.{clash, both-passed}
 use Rattle.whole.proofs.Choice as choice
 use Rattle.units.specs.Refusals.{badKind}
 use Rattle.frame.specs.Digits.{digitsOf, bytesOf}
 use Rattle.frame.specs.Numbers.{bytesIn, numberOf, twosIn, signedIn, byteSum}
-use Rattle.frame.specs.Frame.{lineRefusal, inForm, entryOf, readRefusal, answered, readingOf, bodyOf, summed, lineOf, writeRefusal, written}
+use Rattle.frame.specs.Frame.{lineRefusal, inForm, entryOf, readRefusal, readingOf, bodyOf, summed, lineOf, writeRefusal, written}
 use Rattle.frame.specs.declared.Entry.{Entry}
-use Rattle.frame.specs.declared.Reading.{Reading}
 use Rattle.frame.specs.declared.Reading.the-variants.{Frame, Refused}
 use Rattle.frame.proofs.Numbers.{Bytes, bytes-take, bytes-drop, byte-at, bytes-are, length-bytes, number-bytes, bytes-number, number-below, signed-twos, twos-signed, twos-below, signed-below}
 use Rattle.frame.proofs.Lines.{Sound, sound, opens, twelve, line-bytes, line-back, made-bytes, made-sound}
-use Rattle.frame.proofs.Frames.{length-body, reading-entry, write-right}
+use Rattle.frame.proofs.Frames.{length-body, reading-entry, write-right, taken, takes}
 
 -- the entry's fields lie in their types
 pub record Held (entry : Entry) : Type 0 where
@@ -64,11 +63,7 @@ read-written entry h f =
 
 -- the same of a lent run that the writer filled
 pub read-filled : (entry : Entry) (run : List ℕ) → Held entry → writeRefusal entry (length run) ≡ 0 → readingOf (written entry run) ≡ Frame entry
-unfolding writeRefusal written
-read-filled entry run h z =
-    let p = choice.passed (eqb (length run) 24) 0 (unless (inForm entry) badKind 0) z in
-    let f = choice.passed (inForm entry) 12 0 (p .1) in
-    ap readingOf (kept-new (lineOf entry) run z) ∙ read-written entry h (f .0)
+read-filled entry run h z = ap readingOf (sym (write-right entry run z)) ∙ read-written entry h (taken entry run z .1)
 
 -- ---- read, then written
 
@@ -152,6 +147,5 @@ module _ (line : List ℕ) (entry : Entry) (reads : readingOf line ≡ Frame ent
   -- the same of a lent run of 24 bytes
   pub filled-read : (run : List ℕ) → length run ≡ 24 → (writeRefusal entry (length run) ≡ 0) × (written entry run ≡ line)
   filled-read run l =
-      let w = write-right entry run (lineOf entry) l (passed line entry reads .form) refl in
-      (sym (w .0), sym (w .1) ∙ written-read)
-
+      let z = takes entry run l (passed line entry reads .form) in
+      (z, sym (write-right entry run z) ∙ written-read)

@@ -1,16 +1,14 @@
 // Frames: a line of 24 digits, and the entry that it holds.
 ghost use mathlib.Core.Path.{_≡_};
 ghost use lib.ListN.{length};
-ghost use Rattle.whole.specs.Choice.{unless};
-ghost use Rattle.units.specs.Refusals.{badKind};
 ghost use Rattle.frame.specs.Kinds.{usesDay, usesHour, usesAmount};
-ghost use Rattle.frame.specs.Frame.{checked, zeros, openedOf, isZero, inForm, entryOf, readingOf, bodyOf, summed, writeRefusal, written};
+ghost use Rattle.frame.specs.Frame.{checked, zeros, openedOf, isZero, inForm, entryOf, readingOf, bodyOf, summed, lineOf, writeRefusal, written};
 use units::Dollars;
 use units::refusals;
 
 mod digit;
-mod number;
 pub mod kinds;
+mod number;
 
 // What a frame says. Fields that its kind does not use are zero.
 pub struct Entry {
@@ -158,18 +156,32 @@ fn put_bytes(entry: Entry, bytes: &mut [u8])
     bytes[11] = number::sum(&bytes[..11]);
 }
 
+// The line of an entry.
+fn put_line(entry: Entry, line: &mut [u8])
+    requires { ⌜ length (now line) ≡ 24 ⌝ }
+    ensures { λ _. ⌜ now (line .exit) ≡ lineOf entry ⌝ }
+{
+    let mut bytes = [0u8; 12];
+    put_bytes(entry, &mut bytes);
+    digit::encode(&bytes, line);
+}
+
+// For a run of n bytes: 1, then 13.
+fn write_refusal(entry: Entry, n: usize) -> u8
+    ensures { λ r. ⌜ r ≡ writeRefusal entry n ⌝ }
+{
+    let form = whole::unless(in_form(entry), refusals::BAD_KIND, 0);
+    whole::unless(n == 24, refusals::WRONG_LENGTH, form)
+}
+
 // Fills a lent run of 24 bytes with the entry's line, without a line end; or answers 1 or 13 and leaves the run as it was.
 pub fn write_frame(entry: Entry, line: &mut [u8]) -> u8
     ensures { λ r. ⌜ (r ≡ writeRefusal entry (length (now (line .entry)))) × (now (line .exit) ≡ written entry (now (line .entry))) ⌝ }
 {
-    if line.len() != 24 {
-        return refusals::WRONG_LENGTH;
+    let refusal = write_refusal(entry, line.len());
+    if refusal != 0 {
+        return refusal;
     }
-    if !in_form(entry) {
-        return refusals::BAD_KIND;
-    }
-    let mut bytes = [0u8; 12];
-    put_bytes(entry, &mut bytes);
-    digit::encode(&bytes, line);
+    put_line(entry, line);
     0
 }

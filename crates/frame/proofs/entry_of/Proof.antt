@@ -2,14 +2,10 @@
 use mathlib.Core.Path.{_≡_}
 use mir.Syntax.{w64}
 use mir.Val.{toZ, ofZ}
-use Rattle.frame.specs.Frame.{entryOf}
 use borrow.Author.Needs.{needs}
+use Rattle.frame.specs.Frame.{entryOf}
 use Rattle.frame.proofs.entry_of.Statement.{statement}
 use Rattle.frame.proofs.entry_of.Tie as tie
-use Rattle.frame.proofs.entry_of.Reads as reads
-use Rattle.frame.proofs.entry_of.Lts as lts
-use Rattle.frame.proofs.number.number.Reads as number-reads
-use Rattle.frame.proofs.number.signed.Reads as signed-reads
 
 sub-number : tie.Need-sub-number
 sub-number c = search needs

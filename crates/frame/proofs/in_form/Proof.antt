@@ -6,12 +6,6 @@ use borrow.Author.Needs.{needs}
 use Rattle.frame.specs.Frame.{inForm}
 use Rattle.frame.proofs.in_form.Statement.{statement}
 use Rattle.frame.proofs.in_form.Tie as tie
-use Rattle.frame.proofs.in_form.Reads as reads
-use Rattle.frame.proofs.in_form.Lts as lts
-use Rattle.frame.proofs.is_zero.Reads as is-zero-reads
-use Rattle.frame.proofs.uses_amount.Reads as uses-amount-reads
-use Rattle.frame.proofs.uses_day.Reads as uses-day-reads
-use Rattle.frame.proofs.uses_hour.Reads as uses-hour-reads
 
 uses-day-requires : tie.Need-uses-day-requires
 uses-day-requires c κs = search needs

@@ -1,17 +1,10 @@
 -- `frame::open_line` meets its contract: each way out has the tests that `openedOf` makes, in their order. Assumes nothing.
-use mathlib.Core.Path.{_≡_, sym, ap, _∙_}
+use mathlib.Core.Path.{sym, _∙_}
 use borrow.Author.Tests.{not-true, not-false}
-use Rattle.frame.specs.Frame.{checked}
-use Rattle.frame.specs.Digits.{bytesOf}
-use Rattle.frame.proofs.Frames.{opened-length, opened-digit, opened-sum, opened-right}
 use borrow.Author.Needs.{needs}
+use Rattle.frame.proofs.Frames.{opened-length, opened-digit, opened-sum, opened-right}
 use Rattle.frame.proofs.open_line.Statement.{statement}
 use Rattle.frame.proofs.open_line.Tie as tie
-use Rattle.frame.proofs.open_line.Reads as reads
-use Rattle.frame.proofs.open_line.Lts as lts
-use Rattle.frame.proofs.checked.Reads as checked-reads
-use Rattle.frame.proofs.digit.decode.Reads as decode-reads
-use Rattle.frame.proofs.turned_away.Reads as turned-away-reads
 
 turned-away-requires : tie.Need-turned-away-requires
 turned-away-requires c κs = search needs

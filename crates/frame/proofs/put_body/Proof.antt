@@ -4,15 +4,11 @@ use mathlib.Core.Path.{_≡_}
 use lib.ListN.{length-set}
 use mir.Syntax.{w64}
 use mir.Val.{toZ, ofZ}
+use borrow.Author.Needs.{needs}
 use Rattle.frame.specs.Frame.{bodyOf}
 use Rattle.frame.proofs.Frames.{put-three, same-three}
-use borrow.Author.Needs.{needs}
 use Rattle.frame.proofs.put_body.Statement.{statement}
 use Rattle.frame.proofs.put_body.Tie as tie
-use Rattle.frame.proofs.put_body.Reads as reads
-use Rattle.frame.proofs.put_body.Lts as lts
-use Rattle.frame.proofs.number.put_number.Reads as put-number-reads
-use Rattle.frame.proofs.number.twos.Reads as twos-reads
 
 twos-requires : tie.Need-twos-requires
 twos-requires c κs = search needs

@@ -1,14 +1,10 @@
 -- `frame::put_bytes` meets its contract: eleven bytes, and then their sum. Assumes nothing.
 use mathlib.Core.Path.{sym, ap, _∙_}
+use borrow.Author.Needs.{needs}
 use Rattle.frame.specs.Frame.{summed}
 use Rattle.frame.proofs.Frames.{eleven, length-taken, put-sum}
-use borrow.Author.Needs.{needs}
 use Rattle.frame.proofs.put_bytes.Statement.{statement}
 use Rattle.frame.proofs.put_bytes.Tie as tie
-use Rattle.frame.proofs.put_bytes.Reads as reads
-use Rattle.frame.proofs.put_bytes.Lts as lts
-use Rattle.frame.proofs.number.sum.Reads as sum-reads
-use Rattle.frame.proofs.put_body.Reads as put-body-reads
 
 slice-relend-prefix-put-body : tie.Need-slice-relend-prefix-put-body
 slice-relend-prefix-put-body c = search needs

@@ -1,19 +1,14 @@
 -- `frame::read_frame` meets its contract: the line's refusal first, and then the form of the entry that its bytes hold. Assumes nothing.
 use mathlib.Core.Path.{_≡_, sym, ap, _∙_}
 use borrow.Author.Tests.{not-true, not-false}
+use borrow.Author.Needs.{needs}
 use Rattle.frame.specs.Digits.{bytesOf}
 use Rattle.frame.specs.Frame.{lineRefusal, inForm, entryOf}
 use Rattle.frame.specs.declared.Opened.{Opened}
 use Rattle.frame.specs.declared.Reading.the-variants.{Frame}
 use Rattle.frame.proofs.Frames.{opened-number, opened-bytes, reading-line, reading-form, reading-entry}
-use borrow.Author.Needs.{needs}
 use Rattle.frame.proofs.read_frame.Statement.{statement}
 use Rattle.frame.proofs.read_frame.Tie as tie
-use Rattle.frame.proofs.read_frame.Reads as reads
-use Rattle.frame.proofs.read_frame.Lts as lts
-use Rattle.frame.proofs.entry_of.Reads as entry-of-reads
-use Rattle.frame.proofs.in_form.Reads as in-form-reads
-use Rattle.frame.proofs.open_line.Reads as open-line-reads
 
 open-line-requires : tie.Need-open-line-requires
 open-line-requires c κs = search needs

@@ -1,61 +1,36 @@
--- `frame::write_frame` meets its contract: a refused run stays, and a filled one is the entry's line. Assumes nothing.
-use mathlib.Core.Path.{sym, ap, _∙_}
-use borrow.Author.Tests.{not-true, not-false}
-use Rattle.frame.specs.Digits.{digitsOf}
-use Rattle.frame.specs.Frame.{lineOf}
-use Rattle.frame.proofs.Frames.{write-length, write-form, write-right}
+-- `frame::write_frame` meets its contract: a refused run stays, and one that is filled is the entry's line. Assumes nothing.
+use mathlib.Core.Path.{_≡_, sym, _∙_}
+use lib.ListN.{length}
 use borrow.Author.Needs.{needs}
+use Rattle.frame.specs.Frame.{writeRefusal}
+use Rattle.frame.proofs.Frames.{write-refused, write-right, taken}
 use Rattle.frame.proofs.write_frame.Statement.{statement}
 use Rattle.frame.proofs.write_frame.Tie as tie
-use Rattle.frame.proofs.write_frame.Reads as reads
-use Rattle.frame.proofs.write_frame.Lts as lts
-use Rattle.frame.proofs.digit.encode.Reads as encode-reads
-use Rattle.frame.proofs.in_form.Reads as in-form-reads
-use Rattle.frame.proofs.put_bytes.Reads as put-bytes-reads
+
+write-refusal-requires : tie.Need-write-refusal-requires
+write-refusal-requires c κs = search needs
 
 returns : tie.Need-returns
-returns c = write-length _ _ (c .if1 .taken)
+returns c =
+    let w = c .before .write-refusal .ensures in
+    (w, write-refused _ _ (λ e. c .if1 .taken (w ∙ e)))
 
-in-form-requires : tie.Need-in-form-requires
-in-form-requires c κs = search needs
+-- nothing is refused
+found : (c : tie.Else1) → let s = c .before .before .before in writeRefusal (s .args .entry) (length (s .args .line .now)) ≡ 0
+found c = sym (c .before .write-refusal .ensures) ∙ c .if1 .left
 
-returns-2 : tie.Need-returns-2
-returns-2 c = write-form _ _ (c .before .before .if1 .left) (sym (c .before .in-form .ensures) ∙ not-true _ (c .if2 .taken))
-
-slice-aggregate-put-bytes : tie.Need-slice-aggregate-put-bytes
-slice-aggregate-put-bytes c = search needs
-
-put-bytes-requires : tie.Need-put-bytes-requires
-put-bytes-requires c κs = search needs
-
-slice-aggregate-encode : tie.Need-slice-aggregate-encode
-slice-aggregate-encode c = search needs
-
-encode-requires : tie.Need-encode-requires
-encode-requires c κs = search needs
+put-line-requires : tie.Need-put-line-requires
+put-line-requires c κs = taken _ (c .before .before .before .before .args .line .now) (found (c .before)) .0
 
 same-length : tie.Need-same-length
 same-length c = search needs
 
-returns-3 : tie.Need-returns-3
-unfolding lineOf
-returns-3 c =
-    let x = c .before .before in
-    let p = x .before .before .before .before in
-    let f = p .before .before in
-    write-right _ _ _ (f .before .before .if1 .left) (sym (f .before .in-form .ensures) ∙ not-false _ (f .if2 .left))
-    (x .encode .ensures ∙ ap digitsOf (p .put-bytes .ensures))
+returns-2 : tie.Need-returns-2
+returns-2 c =
+    let p = c .before .before in
+    let z = found (p .before .before) in
+    (sym z, p .put-line .ensures ∙ write-right _ _ z)
 
 pub write-frame-spec : {M : Type 1} → statement M
 write-frame-spec =
-    tie.close
-    (tie.spec
-    returns
-    in-form-requires
-    returns-2
-    slice-aggregate-put-bytes
-    put-bytes-requires
-    slice-aggregate-encode
-    encode-requires
-    same-length
-    returns-3)
+    tie.close (tie.spec write-refusal-requires returns put-line-requires same-length returns-2)

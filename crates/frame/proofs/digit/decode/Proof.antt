@@ -2,8 +2,8 @@
 -- and then those of the digits left, are the bytes of the line. Assumes nothing.
 use Prim.Native.Nat.{_≤_, _+_, _-_, _*_}
 use native.Mathlib.Omega.{arith}
-use mathlib.Core.Path.{_≡_, refl, sym, _∙_}
-use mathlib.Core.Bool.{true, _&&_}
+use mathlib.Core.Path.{_≡_, refl, _∙_}
+use mathlib.Core.Bool.{_&&_}
 use mathlib.Core.List.{_++_}
 use lib.ListN.{length, getD, take, drop, length-set}
 use borrow.Author.Tests.{not-true, not-false}
@@ -12,10 +12,6 @@ use Rattle.frame.specs.Digits.{isDigit, allDigits, bytesOf}
 use Rattle.frame.proofs.Digits.{decode-stop, decode-digits, decode-next, decode-done}
 use Rattle.frame.proofs.digit.decode.Statement.{statement}
 use Rattle.frame.proofs.digit.decode.Tie as tie
-use Rattle.frame.proofs.digit.decode.Reads as reads
-use Rattle.frame.proofs.digit.decode.Lts as lts
-use Rattle.frame.proofs.digit.byte.Reads as byte-reads
-use Rattle.frame.proofs.digit.is_digit.Reads as is-digit-reads
 
 abbrev Inv-loop : tie.InvT-loop
 Inv-loop line bytes₀ i₀ bytes i =
