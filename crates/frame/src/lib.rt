@@ -122,9 +122,8 @@ pub fn read_frame(line: &[u8]) -> Reading
     ensures { λ r. ⌜ r ≡ readingOf (now (line .entry)) ⌝ }
 {
     let opened = open_line(line);
-    let refusal = opened.refusal;
-    if refusal != 0 {
-        return Reading::Refused(refusal);
+    if opened.refusal != 0 {
+        return Reading::Refused(opened.refusal);
     }
     let bytes = opened.bytes;
     let entry = entry_of(&bytes);

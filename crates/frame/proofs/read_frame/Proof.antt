@@ -18,7 +18,9 @@ found : (c : tie.After-open-line) → c .open-line .result .refusal ≡ lineRefu
 found c = ap (λ (o : Opened). o .refusal) (c .open-line .ensures) ∙ opened-number _
 
 returns : tie.Need-returns
-returns c = rw (found (c .before)) (reading-line _ (λ e. c .if1 .taken (found (c .before) ∙ e)))
+returns c =
+    let f = found (c .before .before) in
+    rw f (reading-line _ (λ e. c .if1 .taken (f ∙ e)))
 
 slice-aggregate-entry-of : tie.Need-slice-aggregate-entry-of
 slice-aggregate-entry-of c = search needs
@@ -29,25 +31,28 @@ entry-of-requires c κs = search needs
 in-form-requires : tie.Need-in-form-requires
 in-form-requires c κs = search needs
 
--- the entry is that of the line's bytes
-held : (c : tie.After-entry-of) → let o = c .before .before .before .before in c .entry-of .result ≡ entryOf (bytesOf (o .before .before .args .line .now))
+-- nothing is wrong with the line, and the entry is that of its bytes
+right : (c : tie.Else1) → lineRefusal (c .before .before .before .before .args .line .now) ≡ 0
+right c = sym (found (c .before .before)) ∙ c .if1 .left
+
+held : (c : tie.After-entry-of) → let e = c .before .before .before in c .entry-of .result ≡ entryOf (bytesOf (e .before .before .before .before .args .line .now))
 held c =
     let e = c .before .before .before in
-    let o = e .before in
-    c .entry-of .ensures ∙ ap entryOf (ap (λ (p : Opened). p .bytes) (o .open-line .ensures) ∙ opened-bytes _ (sym (found o) ∙ e .if1 .left))
+    c .entry-of .ensures ∙ ap entryOf (ap (λ (o : Opened). o .bytes) (e .before .before .open-line .ensures) ∙ opened-bytes _ (right e))
+
+form : (c : tie.After-in-form)
+    → let e = c .before .before .before .before in c .in-form .result ≡ inForm (entryOf (bytesOf (e .before .before .before .before .args .line .now)))
+form c = c .in-form .ensures ∙ ap inForm (held (c .before))
 
 returns-2 : tie.Need-returns-2
 returns-2 c =
     let f = c .before in
-    let e = f .before .before .before .before in
-    reading-form _ (sym (found (e .before)) ∙ e .if1 .left) (ap inForm (sym (held (f .before))) ∙ sym (f .in-form .ensures) ∙ not-true _ (c .if2 .taken))
+    reading-form _ (right (f .before .before .before .before)) (sym (form f) ∙ not-true _ (c .if2 .taken))
 
 returns-3 : tie.Need-returns-3
 returns-3 c =
     let f = c .before in
-    let e = f .before .before .before .before in
-    ap Frame (held (f .before))
-    ∙ reading-entry _ (sym (found (e .before)) ∙ e .if1 .left) (ap inForm (sym (held (f .before))) ∙ sym (f .in-form .ensures) ∙ not-false _ (c .if2 .left))
+    ap Frame (held (f .before)) ∙ reading-entry _ (right (f .before .before .before .before)) (sym (form f) ∙ not-false _ (c .if2 .left))
 
 pub read-frame-spec : {M : Type 1} → statement M
 read-frame-spec =
