@@ -20,11 +20,11 @@ abbrev readings : List text.String → List Reading
 readings [] = []
 readings (l ∷ ls) = readingOf (line l) ∷ readings ls
 
-abbrev frame : ℕ → ℕ → ℕ → ℕ → Reading
-frame kind day hour dollars = Frame (record { kind = kind; day = day; hour = hour; amount = record { 0 = pos dollars } })
+abbrev framed : ℕ → ℕ → ℕ → ℕ → Reading
+framed kind day hour dollars = Frame (record { kind = kind; day = day; hour = hour; amount = record { 0 = pos dollars } })
 
 samples :
     readings ("001F0000000000000000001F" ∷ "01030A0000000000001E78A4" ∷ "01030A0000000000001888AE" ∷ "04000000000000000021D2F7" ∷ [])
-    ≡ frame openKind 31 0 0 ∷ frame postKind 3 10 7800 ∷ frame postKind 3 10 6280 ∷ frame lossFeeKind 0 0 8658 ∷ []
+    ≡ framed openKind 31 0 0 ∷ framed postKind 3 10 7800 ∷ framed postKind 3 10 6280 ∷ framed lossFeeKind 0 0 8658 ∷ []
 unfolding readingOf readRefusal lineRefusal checked inForm entryOf signedIn isDigit valueOf
 samples = refl
