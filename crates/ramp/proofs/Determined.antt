@@ -1,0 +1,23 @@
+-- Answers that meet a public function's contract are equal, and so is what each leaves in the lent run: each contract is made of
+-- equations. Assumes nothing.
+use mathlib.Core.Path.{sym, _∙_}
+use denote.Ref.{now}
+use Rattle.whole.specs.Determined.{Determined, LeftDetermined}
+use Rattle.ramp.proofs.ramp.Reads as ramp
+use Rattle.ramp.proofs.ramp.Kinds as ramp-kinds
+use Rattle.ramp.proofs.planned_at.Reads as planned-at
+use Rattle.ramp.proofs.planned_at.Kinds as planned-at-kinds
+use Rattle.ramp.proofs.transfer_at.Reads as transfer-at
+use Rattle.ramp.proofs.transfer_at.Kinds as transfer-at-kinds
+
+ramp-determined : Determined 1 ramp-kinds.ps ramp-kinds.r ramp.Post
+ramp-determined κs a x y s t p q = p .0 ∙ sym (q .0)
+
+ramp-run-determined : LeftDetermined 1 ramp-kinds.ps ramp-kinds.r (λ κs s. now (s .1 .1 .0)) ramp.Post
+ramp-run-determined κs a x y s t p q = p .1 ∙ sym (q .1)
+
+planned-at-determined : Determined 0 planned-at-kinds.ps planned-at-kinds.r planned-at.Post
+planned-at-determined κs a x y s t p q = p ∙ sym q
+
+transfer-at-determined : Determined 1 transfer-at-kinds.ps transfer-at-kinds.r transfer-at.Post
+transfer-at-determined κs a x y s t p q = p ∙ sym q

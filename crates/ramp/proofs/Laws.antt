@@ -1,0 +1,117 @@
+-- What a ramp answers, for the crates above: it stays between its targets, so that a second lies within 100,000 kW whatever was handed in; and
+-- a second that is not refused is formula 1. By the sign of the difference. Assumes nothing.
+use mathlib.Core.Path.{_≡_, refl, ap}
+use mathlib.Core.Bool.{true, false}
+use mathlib.Core.List.{List}
+use Prim.Native.Nat.{ℕ, zero, suc, _+_, _*_, _/_, _%_, _≤_, _<_}
+use native.Mathlib.Nat.{mul-le-mul-left}
+use native.Mathlib.Omega.{arith}
+use lib.Dec.{eqb, leb, lit<}
+use lib.IntN.{ℤ, pos, negsuc, _+ℤ_, _-ℤ_, _*ℤ_}
+use lib.ListN.{length, getD, List·getD-eq-default}
+use borrow.Author.Tests.{eqb-true, leb-true, leb-false}
+use Rattle.whole.specs.Choice.{unless}
+use Rattle.whole.specs.Runs.{listed}
+use Rattle.whole.specs.Whole.{minus, up, down, Within, inRange, allInRange, away, withSign, roundUp}
+use Rattle.whole.proofs.Choice.{and-both, both, by-test, passed, both-passed}
+use Rattle.whole.proofs.Signed.{sum, difference, opposite, leZ-holds}
+use Rattle.whole.proofs.Rounding.{away-within}
+use Rattle.whole.proofs.Sums.{in-within, all-inside}
+use Rattle.units.specs.Refusals.{wrongLength, badTransfer}
+use Rattle.units.specs.declared.Kilowatts.{Kilowatts}
+use Rattle.ramp.specs.Ramp.{rampAt, quarter, isTarget, areTargets, rampRefusal, plannedAt, targetAt, transferAt}
+
+-- the quarter, without writing its 900 seconds out
+pub quarter-is : (last target : ℤ) (n : ℕ) → n ≡ 900 → listed (rampAt last target) 1 n ≡ quarter last target
+unfolding quarter
+quarter-is last target n e = ap (listed (rampAt last target) 1) e
+
+-- ---- targets: the test and the range
+
+pub targets-within : (last target : ℤ) → areTargets last target ≡ true → Within 100000 last × Within 100000 target
+unfolding areTargets
+targets-within last target e = let b = and-both (isTarget last) (isTarget target) e in (in-within (b .0), in-within (b .1))
+
+pub within-target : (z : ℤ) → Within 100000 z → isTarget z ≡ true
+unfolding inRange
+within-target z w = both (leZ-holds (minus 100000) z (omega arith)) (leZ-holds z (pos 100000) (omega arith))
+
+-- a ramp that is not refused
+pub ramp-fit : (last target : Kilowatts) (places : ℕ) → rampRefusal last target places ≡ 0 → (places ≡ 900) × (Within 100000 (last .0) × Within 100000 (target .0))
+unfolding rampRefusal
+ramp-fit last target places e =
+    let none = both-passed (unless (eqb places 900) wrongLength 0) (unless (areTargets (last .0) (target .0)) badTransfer 0) e in
+    let long = passed (eqb places 900) 0 0 (none .0) in
+    let fit = passed (areTargets (last .0) (target .0)) 9 0 (none .1) in
+    (eqb-true places 900 (long .0), targets-within (last .0) (target .0) (fit .0))
+
+-- ---- a ramp stays between its targets
+
+grown : (d n : ℕ) → n ≤ 300 → roundUp (d * n) 300 ≤ d
+unfolding away withSign
+grown d n h =
+    let w : Within d (pos (roundUp (d * n) 300)) = away-within (pos (d * n)) 300 d (lit< tt) (mul-le-mul-left d h) in
+    omega arith
+
+away-minus : (m : ℕ) → away (minus m) 300 ≡ minus (roundUp m 300)
+unfolding away withSign roundUp
+away-minus zero = refl
+away-minus (suc m) = refl
+
+-- on the way from last to target, `way` their difference
+between : (last target way : ℤ) (n : ℕ) → n ≤ 300 → Within 100000 last → Within 100000 target
+    → up way + (down target + up last) ≡ (up target + down last) + down way → Within 100000 (last +ℤ away (way *ℤ pos n) 300)
+unfolding away withSign
+between last target (pos d) n h l t e = omega (arith, sum last (pos (roundUp (d * n) 300)), grown d n h)
+between last target (negsuc d) n h l t e =
+    let x = roundUp (suc d * n) 300 in
+    rw (away-minus (suc d * n)) (omega (arith, sum last (minus x), opposite (pos x), grown (suc d) n h))
+
+pub ramp-within : (last target : ℤ) (n : ℕ) → Within 100000 last → Within 100000 target → Within 100000 (rampAt last target n)
+unfolding rampAt
+ramp-within last target n l t =
+    by-test (leb n 300)
+    (λ (e : leb n 300 ≡ true). rw e (between last target (target -ℤ last) n (leb-true n 300 e) l t (difference target last)))
+    (λ (e : leb n 300 ≡ false). rw e t)
+
+-- ---- one second: within 100,000 whatever was handed in, and formula 1 where it is not refused
+
+pub planned-granted : (last target : Kilowatts) (n : ℕ) → areTargets (last .0) (target .0) ≡ true → plannedAt last target n .refusal ≡ 0
+unfolding plannedAt
+planned-granted last target n e = rw e
+
+pub planned-is : (last target : Kilowatts) (n : ℕ) → plannedAt last target n .refusal ≡ 0 → plannedAt last target n .power .0 ≡ rampAt (last .0) (target .0) n
+unfolding plannedAt
+planned-is last target n e =
+    by-test (areTargets (last .0) (target .0))
+    (λ (t : areTargets (last .0) (target .0) ≡ true). rw t)
+    (λ (t : areTargets (last .0) (target .0) ≡ false). let z : _≡_ {A = ℕ} 10 0 = rw t at e in absurd (omega arith))
+
+pub planned-within : (last target : Kilowatts) (n : ℕ) → Within 100000 (plannedAt last target n .power .0)
+unfolding plannedAt
+planned-within last target n =
+    by-test (areTargets (last .0) (target .0))
+    (λ (t : areTargets (last .0) (target .0) ≡ true). let w = targets-within (last .0) (target .0) t in rw t (ramp-within (last .0) (target .0) n (w .0) (w .1)))
+    (λ (t : areTargets (last .0) (target .0) ≡ false). rw t (omega arith))
+
+-- ---- an hour's plan
+
+-- a target past the list's end is 0
+at-target : (targets : List ℤ) (q : ℕ) → allInRange (minus 100000) (pos 100000) targets ≡ true → isTarget (getD targets q (pos 0)) ≡ true
+at-target targets q e =
+    by-test (leb (length targets) q)
+    (λ (t : leb (length targets) q ≡ true). rw (List·getD-eq-default targets (pos 0) (leb-true (length targets) q t)) (within-target (pos 0) (omega arith)))
+    (λ (t : leb (length targets) q ≡ false). all-inside (minus 100000) (pos 100000) targets e q (omega (arith, leb-false (length targets) q t)))
+
+pub transfer-within : (targets : List ℤ) (i : ℕ) → Within 100000 (transferAt targets i .0)
+unfolding transferAt
+transfer-within targets i = planned-within (targetAt targets (i / 900)) (targetAt targets (i / 900 + 1)) (i % 900 + 1)
+
+pub transfer-is : (targets : List ℤ) (i : ℕ) → allInRange (minus 100000) (pos 100000) targets ≡ true
+    → transferAt targets i .0 ≡ rampAt (getD targets (i / 900) (pos 0)) (getD targets (i / 900 + 1) (pos 0)) (i % 900 + 1)
+unfolding transferAt areTargets
+transfer-is targets i e =
+    let last = targetAt targets (i / 900) in
+    let target = targetAt targets (i / 900 + 1) in
+    planned-is last target (i % 900 + 1)
+    (planned-granted last target (i % 900 + 1) (both (at-target targets (i / 900) e) (at-target targets (i / 900 + 1) e)))

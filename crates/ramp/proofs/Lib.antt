@@ -1,0 +1,3 @@
+-- What belongs to no one function; `pub` is what crates above cite.
+pub mod Laws
+mod Determined

@@ -1,0 +1,2 @@
+-- The transfer ramp, and an hour's plan by its targets.
+pub mod Ramp

@@ -1,0 +1,52 @@
+-- Document 01, "The transfer ramp" (document 000, formula 1), and its refusals.
+use Prim.Native.Nat.{ℕ, _+_, _/_, _%_}
+use mathlib.Core.Bool.{Bool, _&&_}
+use mathlib.Core.List.{List}
+use lib.Dec.{eqb, leb}
+use lib.IntN.{ℤ, pos, _+ℤ_, _-ℤ_, _*ℤ_}
+use lib.ListN.{length, getD}
+use Rattle.whole.specs.Choice.{pick, unless, orElse, kept}
+use Rattle.whole.specs.Runs.{listed}
+use Rattle.whole.specs.Whole.{minus, inRange, away}
+use Rattle.units.specs.Refusals.{wrongLength, badTransfer}
+use Rattle.units.specs.declared.Kilowatts.{Kilowatts}
+use Rattle.ramp.specs.declared.Planned.{Planned}
+
+-- second n of a quarter, with D the new target less the last one: up to second 300 the last target plus n x D / 300, rounded up if D is above 0
+-- and down if below, and from second 301 the target
+unfoldable pub rampAt : ℤ → ℤ → ℕ → ℤ
+rampAt last target n = pick (leb n 300) (last +ℤ away ((target -ℤ last) *ℤ pos n) 300) target
+
+-- a quarter's seconds 1 to 900
+unfoldable pub quarter : ℤ → ℤ → List ℤ
+quarter last target = listed (rampAt last target) 1 900
+
+-- a transfer target lies from -100,000 to 100,000 kW
+abbrev pub isTarget : ℤ → Bool
+isTarget z = inRange (minus 100000) (pos 100000) z
+
+unfoldable pub areTargets : ℤ → ℤ → Bool
+areTargets last target = isTarget last && isTarget target
+
+-- what the ramp call answers over a run of so many places ("Order. Ramp: 1, 10"), and what it leaves in the run
+unfoldable pub rampRefusal : Kilowatts → Kilowatts → ℕ → ℕ
+rampRefusal last target places =
+    orElse (unless (eqb places 900) wrongLength 0) (unless (areTargets (last .0) (target .0)) badTransfer 0)
+
+unfoldable pub rampLeft : Kilowatts → Kilowatts → List ℤ → List ℤ
+rampLeft last target run = kept (rampRefusal last target (length run)) (quarter (last .0) (target .0)) run
+
+-- one second of a ramp
+unfoldable pub plannedAt : Kilowatts → Kilowatts → ℕ → Planned
+plannedAt last target n =
+    pick (areTargets (last .0) (target .0))
+    (record { refusal = 0; power = record { 0 = rampAt (last .0) (target .0) n } })
+    (record { refusal = badTransfer; power = record { 0 = pos 0 } })
+
+-- second i, from 0 to 3,599, of an E-dReg hour by its five targets: the one before the hour, then those of its four quarters. A target past
+-- the list's end counts as 0.
+abbrev pub targetAt : List ℤ → ℕ → Kilowatts
+targetAt targets q = record { 0 = getD targets q (pos 0) }
+
+unfoldable pub transferAt : List ℤ → ℕ → Kilowatts
+transferAt targets i = plannedAt (targetAt targets (i / 900)) (targetAt targets (i / 900 + 1)) (i % 900 + 1) .power

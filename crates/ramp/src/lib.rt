@@ -1,0 +1,113 @@
+// The transfer ramp (document 000, formula 1): what an E-dReg battery transfers in each second of a quarter.
+ghost use mathlib.Core.Path.{_≡_};
+ghost use Prim.Native.Nat.{_≤_};
+ghost use lib.IntN.{pos};
+ghost use lib.ListN.{length, getD};
+ghost use Rattle.whole.specs.Whole.{Within};
+ghost use Rattle.ramp.specs.Ramp.{areTargets, rampAt, quarter, rampRefusal, rampLeft, plannedAt, transferAt};
+use units::Kilowatts;
+
+// The transfer of one second, or its refusal with 0.
+pub struct Planned {
+    pub refusal: u8,
+    pub power: Kilowatts,
+}
+
+// Fills a run of 900 with a quarter's seconds 1 to 900; a refused run stays as it was.
+pub fn ramp(last: Kilowatts, target: Kilowatts, seconds: &mut [i64]) -> u8
+    ensures { λ r. ⌜ (r ≡ rampRefusal last target (length (now (seconds .entry)))) × (now (seconds .exit) ≡ rampLeft last target (now (seconds .entry))) ⌝ }
+{
+    let from = last.0;
+    let to = target.0;
+    let k = refusal(from, to, seconds.len());
+    if k == 0 {
+        fill(from, to, seconds);
+    }
+    k
+}
+
+// One second of a ramp; past second 300 it is the target.
+pub fn planned_at(last: Kilowatts, target: Kilowatts, second: usize) -> Planned
+    ensures { λ r. ⌜ r ≡ plannedAt last target second ⌝ }
+{
+    let from = last.0;
+    let to = target.0;
+    if are_targets(from, to) {
+        let power = second_of(from, to, second);
+        return Planned {
+            refusal: 0,
+            power: Kilowatts(power),
+        };
+    }
+    Planned {
+        refusal: units::refusals::BAD_TRANSFER,
+        power: Kilowatts(0),
+    }
+}
+
+// The transfer of a second, counted from 0, of an hour by its targets: the one before the hour and those of its quarters.
+pub fn transfer_at(targets: &[i64], second: usize) -> Kilowatts
+    ensures { λ r. ⌜ r ≡ transferAt (now (targets .entry)) second ⌝ }
+{
+    let quarter = second / 900;
+    let last = target_at(targets, quarter);
+    let target = target_at(targets, quarter + 1);
+    let now = planned_at(Kilowatts(last), Kilowatts(target), second % 900 + 1);
+    now.power
+}
+
+// The target at a place, and 0 past the end.
+fn target_at(targets: &[i64], place: usize) -> i64
+    ensures { λ r. ⌜ r ≡ getD (now (targets .entry)) place (pos 0) ⌝ }
+{
+    if place < targets.len() {
+        return targets[place];
+    }
+    0
+}
+
+fn are_targets(last: i64, target: i64) -> bool
+    ensures { λ r. ⌜ r ≡ areTargets last target ⌝ }
+{
+    whole::within(last, -100_000, 100_000) & whole::within(target, -100_000, 100_000)
+}
+
+// 1, 10; 0 lets the ramp through.
+fn refusal(last: i64, target: i64, places: usize) -> u8
+    ensures { λ r. ⌜ r ≡ rampRefusal (record { 0 = last }) (record { 0 = target }) places ⌝ }
+{
+    let length = whole::unless(places == 900, units::refusals::WRONG_LENGTH, 0);
+    let targets = whole::unless(are_targets(last, target), units::refusals::BAD_TRANSFER, 0);
+    whole::or_else(length, targets)
+}
+
+fn fill(last: i64, target: i64, seconds: &mut [i64])
+    requires { ⌜ (length (now seconds) ≡ 900) × (Within 100000 last × Within 100000 target) ⌝ }
+    ensures { λ r. ⌜ now (seconds .exit) ≡ quarter last target ⌝ }
+{
+    let mut i = 0;
+    while i < 900 {
+        let power = second_of(last, target, i + 1);
+        seconds[i] = power;
+        i += 1;
+    }
+}
+
+// Second n of the quarter.
+fn second_of(last: i64, target: i64, n: usize) -> i64
+    requires { ⌜ Within 100000 last × Within 100000 target ⌝ }
+    ensures { λ r. ⌜ r ≡ rampAt last target n ⌝ }
+{
+    if n <= 300 {
+        return ramping(last, target, n);
+    }
+    target
+}
+
+// Second n while the ramp lasts.
+fn ramping(last: i64, target: i64, n: usize) -> i64
+    requires { ⌜ Within 100000 last × (Within 100000 target × (n ≤ 300)) ⌝ }
+    ensures { λ r. ⌜ r ≡ rampAt last target n ⌝ }
+{
+    last + whole::away((target - last) * (n as i64), 300)
+}
