@@ -1,21 +1,21 @@
 -- What a ramp answers, for the crates above: it stays between its targets, so that a second lies within 100,000 kW whatever was handed in; and
 -- a second that is not refused is formula 1. By the sign of the difference. Assumes nothing.
-use mathlib.Core.Path.{_≡_, refl, ap}
+use mathlib.Core.Path.{_≡_, refl, sym, ap, ap₂, _∙_}
 use mathlib.Core.Bool.{true, false}
 use mathlib.Core.List.{List}
 use Prim.Native.Nat.{ℕ, zero, suc, _+_, _*_, _/_, _%_, _≤_, _<_}
 use native.Mathlib.Nat.{mul-le-mul-left}
 use native.Mathlib.Omega.{arith}
 use lib.Dec.{eqb, leb, lit<}
-use lib.IntN.{ℤ, pos, negsuc, _+ℤ_, _-ℤ_, _*ℤ_}
+use lib.IntN.{ℤ, pos, negsuc, natAbs, _+ℤ_, _-ℤ_, _*ℤ_, +ℤ-comm, +ℤ-idr, +ℤ-invr, -ℤ-+ℤ-cancel, zero-*ℤ}
 use lib.ListN.{length, getD, List·getD-eq-default}
 use borrow.Author.Tests.{eqb-true, leb-true, leb-false}
 use Rattle.whole.specs.Choice.{unless}
 use Rattle.whole.specs.Runs.{listed}
 use Rattle.whole.specs.Whole.{minus, up, down, Within, inRange, allInRange, away, withSign, roundUp}
 use Rattle.whole.proofs.Choice.{and-both, both, by-test, passed, both-passed}
-use Rattle.whole.proofs.Signed.{sum, difference, opposite, leZ-holds}
-use Rattle.whole.proofs.Rounding.{away-within}
+use Rattle.whole.proofs.Signed.{sum, difference, opposite, leZ-holds, times, size-product}
+use Rattle.whole.proofs.Rounding.{away-within, away-only, sign-up, sign-down}
 use Rattle.whole.proofs.Sums.{in-within, all-inside}
 use Rattle.units.specs.Refusals.{wrongLength, badTransfer}
 use Rattle.units.specs.declared.Kilowatts.{Kilowatts}
@@ -74,6 +74,28 @@ ramp-within last target n l t =
     (λ (e : leb n 300 ≡ true). rw e (between last target (target -ℤ last) n (leb-true n 300 e) l t (difference target last)))
     (λ (e : leb n 300 ≡ false). rw e t)
 
+-- ---- where the ramp leads: second 300 is the target, and a ramp from a target to itself stays there
+
+same-sign : (d : ℤ) → d ≡ withSign (d *ℤ pos 300) (natAbs d)
+same-sign (pos n) = sym (sign-up (pos n *ℤ pos 300) n (omega arith))
+same-sign (negsuc n) = sym (sign-down (negsuc n *ℤ pos 300) (suc n) (omega (arith, times 300 (negsuc n))))
+
+whole-part : (d : ℤ) → away (d *ℤ pos 300) 300 ≡ d
+whole-part d =
+    let n : natAbs (d *ℤ pos 300) ≡ natAbs d * 300 = size-product d (pos 300) in
+    sym (away-only (d *ℤ pos 300) d 300 (lit< tt) (record { sign = same-sign d; reaches = omega arith; least = omega arith }))
+
+pub ramp-reaches : (last target : ℤ) → rampAt last target 300 ≡ target
+unfolding rampAt
+ramp-reaches last target = rw (whole-part (target -ℤ last)) (+ℤ-comm last (target -ℤ last) ∙ -ℤ-+ℤ-cancel target last)
+
+pub ramp-level : (z : ℤ) (n : ℕ) → rampAt z z n ≡ z
+unfolding rampAt
+ramp-level z n =
+    by-test (leb n 300)
+    (λ (e : leb n 300 ≡ true). rw (e, +ℤ-invr z, zero-*ℤ (pos n), whole-part (pos 0)) (+ℤ-idr z))
+    (λ (e : leb n 300 ≡ false). rw e)
+
 -- ---- one second: within 100,000 whatever was handed in, and formula 1 where it is not refused
 
 pub planned-granted : (last target : Kilowatts) (n : ℕ) → areTargets (last .0) (target .0) ≡ true → plannedAt last target n .refusal ≡ 0
@@ -115,3 +137,14 @@ transfer-is targets i e =
     let target = targetAt targets (i / 900 + 1) in
     planned-is last target (i % 900 + 1)
     (planned-granted last target (i % 900 + 1) (both (at-target targets (i / 900) e) (at-target targets (i / 900 + 1) e)))
+
+-- an hour whose targets are all 0 transfers nothing
+level : (n : ℕ) → plannedAt (record { 0 = pos 0 }) (record { 0 = pos 0 }) n .power ≡ record { 0 = pos 0 }
+unfolding plannedAt areTargets inRange
+level n = ap (λ (z : ℤ). record { 0 = z }) (ramp-level (pos 0) n)
+
+pub transfer-none : (targets : List ℤ) (i : ℕ) → ((q : ℕ) → getD targets q (pos 0) ≡ pos 0) → transferAt targets i ≡ record { 0 = pos 0 }
+unfolding transferAt
+transfer-none targets i zeros =
+    ap₂ (λ (last target : ℤ). plannedAt (record { 0 = last }) (record { 0 = target }) (i % 900 + 1) .power) (zeros (i / 900)) (zeros (i / 900 + 1))
+    ∙ level (i % 900 + 1)
