@@ -17,7 +17,7 @@ abbrev pub clip : ℕ → ℕ
 clip f = 59750 + min (f - 59750) 500
 
 -- the last line ends in the last corner
-abbrev Ends : (Corner → ℤ) → Type 0
+abbrev pub Ends : (Corner → ℤ) → Type 0
 Ends percent = bound percent (pos 60250) ≡ percent (corner 60250 (minus 100) (minus 100))
 
 module _ (percent : Corner → ℤ) (ends : Ends percent) where
@@ -36,7 +36,7 @@ module _ (percent : Corner → ℤ) (ends : Ends percent) where
         lt-leb f 60250 h,
       )
 
-  clipped : (f : ℕ) → bound percent (pos (clip f)) ≡ bound percent (pos f)
+  pub clipped : (f : ℕ) → bound percent (pos (clip f)) ≡ bound percent (pos f)
   clipped f =
       by-test (leb f 59750)
       (λ (t : leb f 59750 ≡ true).

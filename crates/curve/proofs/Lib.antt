@@ -1,4 +1,5 @@
--- What belongs to no one function.
+-- What belongs to no one function; `pub` is what crates above cite.
 mod Entries
 mod Laws
+pub mod Limits
 mod Determined

@@ -1,0 +1,90 @@
+-- What a second's score is, for the crates above: at most 100 whatever was handed in, and the paper's formula where it is not refused. By the
+-- tests of its refusal. Assumes nothing.
+use Prim.Native.Nat.{_-_, _*_, _≤_, _<_}
+use mathlib.Core.Path.{_≡_, sym, ap, _∙_}
+use mathlib.Core.Bool.{true, false}
+use native.Mathlib.Omega.{arith}
+use lib.Dec.{eqb}
+use lib.IntN.{ℤ, pos, natAbs, _-ℤ_, _*ℤ_}
+use borrow.Author.Tests.{eqb-true, eq-eqb}
+use Rattle.whole.specs.Choice.{unless}
+use Rattle.whole.specs.Whole.{minus, Within, Between, inRange}
+use Rattle.whole.proofs.Choice.{by-test, and-both, passed, both-passed}
+use Rattle.whole.proofs.Rounding.{nearest-within}
+use Rattle.whole.proofs.Signed.{size, times, difference, within-size}
+use Rattle.units.specs.Refusals.{badCapacity, badTransfer}
+use Rattle.units.specs.declared.Kilowatts.{Kilowatts}
+use Rattle.units.specs.declared.Millihertz.{Millihertz}
+use Rattle.curve.specs.Curve.{upperAt, lowerAt}
+use Rattle.score.specs.Score.{percentOutput, scoreOf, isCapacity, isTransfer, isReading, secondRefusal, judgedBy, secondScore}
+use Rattle.score.specs.declared.Scored.{Scored}
+
+pub score-most : (output upper lower : ℤ) → scoreOf output upper lower ≤ 100
+unfolding scoreOf
+score-most output upper lower =
+    by-test (inRange lower upper output)
+    (λ (e : inRange lower upper output ≡ true). rw e (omega arith))
+    (λ (e : inRange lower upper output ≡ false). rw e (omega arith))
+
+-- percent output is at most 300,000 kW over 1 kW
+pub output-within : (power transfer capacity : ℤ) → Within 200000 power → Within 100000 transfer → Between (pos 1) (pos 100000) capacity
+    → Within 30000000 (percentOutput power transfer capacity)
+unfolding percentOutput
+output-within power transfer capacity p t c =
+    let n = (power -ℤ transfer) *ℤ pos 100 in
+    let some : 0 < natAbs capacity = omega (arith, size capacity) in
+    let w : Within 30000000 n = omega (arith, times 100 (power -ℤ transfer), difference power transfer) in
+    let s : natAbs n ≤ 30000000 = within-size w in
+    let l : natAbs n ≤ 30000000 * natAbs capacity = omega arith in
+    nearest-within n (natAbs capacity) 30000000 some l
+
+-- what is not refused, test by test
+pub record Fit (p t c : Kilowatts) (f : Millihertz) : Type 0 where
+  pub capacity : isCapacity (c .0) ≡ true
+  pub transfer : isTransfer (t .0) ≡ true
+  pub power : inRange (minus 200000) (pos 200000) (p .0) ≡ true
+  pub frequency : inRange (pos 55000) (pos 65000) (f .0) ≡ true
+
+module _ (power transfer capacity : Kilowatts) (frequency : Millihertz) where
+  pub second-fit : secondRefusal power transfer capacity frequency ≡ 0 → Fit power transfer capacity frequency
+  unfolding secondRefusal
+  second-fit e =
+      let a = both-passed (unless (isCapacity (capacity .0)) badCapacity 0) _ e in
+      let b = both-passed (unless (isTransfer (transfer .0)) badTransfer 0) _ (a .1) in
+      let c = passed (isCapacity (capacity .0)) 1 0 (a .0) in
+      let t = passed (isTransfer (transfer .0)) 9 0 (b .0) in
+      let r = passed (isReading (power .0) (frequency .0)) 3 0 (b .1) in
+      let q = and-both (inRange (minus 200000) (pos 200000) (power .0)) (inRange (pos 55000) (pos 65000) (frequency .0)) (r .0) in
+      record { capacity = c .0; transfer = t .0; power = q .0; frequency = q .1 }
+
+  pub fit-second : Fit power transfer capacity frequency → secondRefusal power transfer capacity frequency ≡ 0
+  unfolding secondRefusal
+  fit-second f = rw (f .capacity, f .transfer, f .power, f .frequency)
+
+  -- a second that is let through, and one that is refused
+  pub second-granted : secondRefusal power transfer capacity frequency ≡ 0
+      → secondScore power transfer capacity frequency ≡ record { refusal = 0; score = judgedBy power transfer capacity frequency }
+  unfolding secondScore
+  second-granted e = rw (eq-eqb _ 0 e)
+
+  pub second-refusal : secondScore power transfer capacity frequency .refusal ≡ secondRefusal power transfer capacity frequency
+  unfolding secondScore
+  second-refusal =
+      let k = secondRefusal power transfer capacity frequency in
+      by-test (eqb k 0)
+      (λ (t : eqb k 0 ≡ true). rw t (sym (eqb-true k 0 t)))
+      (λ (t : eqb k 0 ≡ false). rw t)
+
+  pub score-is : secondScore power transfer capacity frequency .refusal ≡ 0
+      → secondScore power transfer capacity frequency .score
+      ≡ scoreOf (percentOutput (power .0) (transfer .0) (capacity .0)) (upperAt (frequency .0)) (lowerAt (frequency .0))
+  unfolding judgedBy
+  score-is e = ap (λ (s : Scored). s .score) (second-granted (sym second-refusal ∙ e))
+
+  pub score-within : secondScore power transfer capacity frequency .score ≤ 100
+  unfolding secondScore judgedBy
+  score-within =
+      let k = secondRefusal power transfer capacity frequency in
+      by-test (eqb k 0)
+      (λ (t : eqb k 0 ≡ true). rw t (score-most (percentOutput (power .0) (transfer .0) (capacity .0)) (upperAt (frequency .0)) (lowerAt (frequency .0))))
+      (λ (t : eqb k 0 ≡ false). rw t (omega arith))

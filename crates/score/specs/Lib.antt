@@ -1,0 +1,3 @@
+-- A second's score, and an hour's rate by its scores.
+pub mod Score
+pub mod Rolling

@@ -1,0 +1,183 @@
+// A second's score by its percent output, and an hour's rate by its scores.
+ghost use mathlib.Core.Path.{_≡_};
+ghost use Prim.Native.Nat.{_-_, min, max};
+ghost use lib.IntN.{pos};
+ghost use Rattle.whole.specs.Whole.{Within, Between};
+ghost use Rattle.score.specs.Score.{percentOutput, scoreOf, secondRefusal, judgedBy, secondScore};
+ghost use Rattle.score.specs.Rolling.{hourlyRate, rateAfter};
+use units::Kilowatts;
+use units::Millihertz;
+
+// A second's score, or its refusal with 0.
+pub struct Scored {
+    pub refusal: u8,
+    pub score: u8,
+}
+
+// An hour's rate, or its refusal with 0.
+pub struct Rated {
+    pub refusal: u8,
+    pub rate: u8,
+}
+
+// The score of a second's power by the frequency of the second before.
+pub fn second_score(
+    power: Kilowatts,
+    transfer: Kilowatts,
+    capacity: Kilowatts,
+    frequency: Millihertz,
+) -> Scored
+    ensures { λ r. ⌜ r ≡ secondScore power transfer capacity frequency ⌝ }
+{
+    let k = refusal(power, transfer, capacity, frequency);
+    if k == 0 {
+        let s = judged_by(power, transfer, capacity, frequency);
+        return Scored {
+            refusal: 0,
+            score: s,
+        };
+    }
+    Scored {
+        refusal: k,
+        score: 0,
+    }
+}
+
+// 2, 10, 4; 0 lets the second through.
+fn refusal(power: Kilowatts, transfer: Kilowatts, capacity: Kilowatts, frequency: Millihertz) -> u8
+    ensures { λ r. ⌜ r ≡ secondRefusal power transfer capacity frequency ⌝ }
+{
+    let p = power.0;
+    let t = transfer.0;
+    let c = capacity.0;
+    let f = frequency.0;
+    let reading = whole::within(p, -200_000, 200_000) & whole::within(f, 55_000, 65_000);
+    let on_capacity = whole::unless(
+        whole::within(c, 1, 100_000),
+        units::refusals::BAD_CAPACITY,
+        0,
+    );
+    let on_transfer = whole::unless(
+        whole::within(t, -100_000, 100_000),
+        units::refusals::BAD_TRANSFER,
+        0,
+    );
+    let on_reading = whole::unless(reading, units::refusals::BAD_READING, 0);
+    whole::or_else(on_capacity, whole::or_else(on_transfer, on_reading))
+}
+
+fn judged_by(
+    power: Kilowatts,
+    transfer: Kilowatts,
+    capacity: Kilowatts,
+    frequency: Millihertz,
+) -> u8
+    requires { ⌜ secondRefusal power transfer capacity frequency ≡ 0 ⌝ }
+    ensures { λ r. ⌜ r ≡ judgedBy power transfer capacity frequency ⌝ }
+{
+    let output = percent_output(power, transfer, capacity);
+    let bounds = curve::curve(frequency);
+    let upper = bounds.upper;
+    let lower = bounds.lower;
+    score_of(output, upper, lower)
+}
+
+// The nearest whole percent of (power - transfer) over capacity.
+fn percent_output(power: Kilowatts, transfer: Kilowatts, capacity: Kilowatts) -> i64
+    requires { ⌜ Within 200000 (power .0) × (Within 100000 (transfer .0) × Between (pos 1) (pos 100000) (capacity .0)) ⌝ }
+    ensures { λ r. ⌜ r ≡ percentOutput (power .0) (transfer .0) (capacity .0) ⌝ }
+{
+    let p = power.0;
+    let t = transfer.0;
+    let c = capacity.0;
+    whole::nearest((p - t) * 100, c)
+}
+
+// 100 within the bounds, else 100 less the distance to the nearer bound, and never below 0.
+fn score_of(output: i64, upper: i64, lower: i64) -> u8
+    requires { ⌜ Within 30000000 output × (Within 100 upper × Within 100 lower) ⌝ }
+    ensures { λ r. ⌜ r ≡ scoreOf output upper lower ⌝ }
+{
+    if whole::within(output, lower, upper) {
+        return 100;
+    }
+    let to_upper = whole::size(output - upper);
+    let to_lower = whole::size(output - lower);
+    less(nearer(to_upper, to_lower))
+}
+
+fn nearer(a: u64, b: u64) -> u64
+    ensures { λ r. ⌜ r ≡ min a b ⌝ }
+{
+    if a < b { a } else { b }
+}
+
+// 100 less the distance, and never below 0.
+fn less(distance: u64) -> u8
+    ensures { λ r. ⌜ r ≡ 100 - distance ⌝ }
+{
+    if 100 <= distance {
+        return 0;
+    }
+    (100 - distance) as u8
+}
+
+// The hourly rate of 3,600 scores: the smallest of their rolling rates.
+pub fn hourly_rate(scores: &[u8]) -> Rated
+    ensures { λ r. ⌜ r ≡ hourlyRate (now (scores .entry)) ⌝ }
+{
+    if scores.len() == 3600 {
+        return rate_after(0, 0, 0, scores);
+    }
+    Rated {
+        refusal: units::refusals::WRONG_LENGTH,
+        rate: 0,
+    }
+}
+
+// One pass, after the three scores before, newest first. It carries the last three scores and the smallest rolling rate so far.
+fn rate_after(last: u8, second: u8, third: u8, scores: &[u8]) -> Rated
+    ensures { λ r. ⌜ r ≡ rateAfter last second third (now (scores .entry)) ⌝ }
+{
+    let mut low = 100;
+    let mut a = last;
+    let mut b = second;
+    let mut c = third;
+    let mut i = 0;
+    while i < scores.len() {
+        let x = scores[i];
+        if 100 < x {
+            return Rated {
+                refusal: units::refusals::BAD_READING,
+                rate: 0,
+            };
+        }
+        low = smaller(low, largest_of(x, a, b, c));
+        c = b;
+        b = a;
+        a = x;
+        i += 1;
+    }
+    Rated {
+        refusal: 0,
+        rate: low,
+    }
+}
+
+fn largest_of(x: u8, a: u8, b: u8, c: u8) -> u8
+    ensures { λ r. ⌜ r ≡ max x (max a (max b c)) ⌝ }
+{
+    larger(x, larger(a, larger(b, c)))
+}
+
+fn larger(a: u8, b: u8) -> u8
+    ensures { λ r. ⌜ r ≡ max a b ⌝ }
+{
+    if b < a { a } else { b }
+}
+
+fn smaller(a: u8, b: u8) -> u8
+    ensures { λ r. ⌜ r ≡ min a b ⌝ }
+{
+    if b < a { b } else { a }
+}
