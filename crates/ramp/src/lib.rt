@@ -81,6 +81,7 @@ fn refusal(last: i64, target: i64, places: usize) -> u8
     whole::or_else(length, targets)
 }
 
+// Seconds 1 to 900, from place 0 on.
 fn fill(last: i64, target: i64, seconds: &mut [i64])
     requires { ⌜ (length (now seconds) ≡ 900) × (Within 100000 last × Within 100000 target) ⌝ }
     ensures { λ r. ⌜ now (seconds .exit) ≡ quarter last target ⌝ }

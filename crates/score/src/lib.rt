@@ -66,6 +66,7 @@ fn refusal(power: Kilowatts, transfer: Kilowatts, capacity: Kilowatts, frequency
     whole::or_else(on_capacity, whole::or_else(on_transfer, on_reading))
 }
 
+// The score of a second that is not refused.
 fn judged_by(
     power: Kilowatts,
     transfer: Kilowatts,
@@ -164,6 +165,7 @@ fn rate_after(last: u8, second: u8, third: u8, scores: &[u8]) -> Rated
     }
 }
 
+// The largest of a window's four scores.
 fn largest_of(x: u8, a: u8, b: u8, c: u8) -> u8
     ensures { λ r. ⌜ r ≡ max x (max a (max b c)) ⌝ }
 {
