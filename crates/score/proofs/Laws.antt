@@ -1,17 +1,15 @@
 -- What a second's score is, for the crates above: at most 100 whatever was handed in, and the paper's formula where it is not refused. By the
 -- tests of its refusal. Assumes nothing.
-use Prim.Native.Nat.{_-_, _*_, _≤_, _<_}
+use Prim.Native.Nat.{_-_, _≤_}
 use mathlib.Core.Path.{_≡_, sym, ap, _∙_}
 use mathlib.Core.Bool.{true, false}
 use native.Mathlib.Omega.{arith}
 use lib.Dec.{eqb}
-use lib.IntN.{ℤ, pos, natAbs, _-ℤ_, _*ℤ_}
+use lib.IntN.{ℤ, pos}
 use borrow.Author.Tests.{eqb-true, eq-eqb}
 use Rattle.whole.specs.Choice.{unless}
-use Rattle.whole.specs.Whole.{minus, Within, Between, inRange}
+use Rattle.whole.specs.Whole.{minus, inRange}
 use Rattle.whole.proofs.Choice.{by-test, and-both, passed, both-passed}
-use Rattle.whole.proofs.Rounding.{nearest-within}
-use Rattle.whole.proofs.Signed.{size, times, difference, within-size}
 use Rattle.units.specs.Refusals.{badCapacity, badTransfer}
 use Rattle.units.specs.declared.Kilowatts.{Kilowatts}
 use Rattle.units.specs.declared.Millihertz.{Millihertz}
@@ -25,18 +23,6 @@ score-most output upper lower =
     by-test (inRange lower upper output)
     (λ (e : inRange lower upper output ≡ true). rw e (omega arith))
     (λ (e : inRange lower upper output ≡ false). rw e (omega arith))
-
--- percent output is at most 300,000 kW over 1 kW
-pub output-within : (power transfer capacity : ℤ) → Within 200000 power → Within 100000 transfer → Between (pos 1) (pos 100000) capacity
-    → Within 30000000 (percentOutput power transfer capacity)
-unfolding percentOutput
-output-within power transfer capacity p t c =
-    let n = (power -ℤ transfer) *ℤ pos 100 in
-    let some : 0 < natAbs capacity = omega (arith, size capacity) in
-    let w : Within 30000000 n = omega (arith, times 100 (power -ℤ transfer), difference power transfer) in
-    let s : natAbs n ≤ 30000000 = within-size w in
-    let l : natAbs n ≤ 30000000 * natAbs capacity = omega arith in
-    nearest-within n (natAbs capacity) 30000000 some l
 
 -- what is not refused, test by test
 pub record Fit (p t c : Kilowatts) (f : Millihertz) : Type 0 where

@@ -1,18 +1,35 @@
 -- `score::judged_by` meets its contract: a second that is not refused has a small output, and its frequency the curve's bounds. Assumes nothing.
+use Prim.Native.Nat.{_*_, _≤_, _<_}
 use mathlib.Core.Path.{_≡_, ap, _∙_}
+use native.Mathlib.Omega.{arith}
+use lib.IntN.{ℤ, pos, natAbs, _-ℤ_, _*ℤ_}
 use mir.Syntax.{w64}
 use mir.Val.{SFits, toZ, ofZ}
 use mir.Facts.{toZ-ofZ}
 use borrow.Author.Needs.{needs}
-use Rattle.whole.proofs.Signed.{back, inside}
+use Rattle.whole.specs.Whole.{Within, Between}
+use Rattle.whole.proofs.Rounding.{nearest-within}
+use Rattle.whole.proofs.Signed.{back, inside, size, times, difference, within-size}
 use Rattle.whole.proofs.Sums.{in-within}
 use Rattle.curve.specs.Curve.{upperAt, lowerAt, boundsAt}
 use Rattle.curve.specs.declared.Bounds.{Bounds}
 use Rattle.curve.proofs.Limits.{upper-within, lower-within, curve-is}
 use Rattle.score.specs.Score.{percentOutput, judgedBy}
-use Rattle.score.proofs.Laws.{Fit, second-fit, output-within}
+use Rattle.score.proofs.Laws.{Fit, second-fit}
 use Rattle.score.proofs.judged_by.Statement.{statement}
 use Rattle.score.proofs.judged_by.Tie as tie
+
+-- percent output is at most 300,000 kW over 1 kW
+output-within : (power transfer capacity : ℤ) → Within 200000 power → Within 100000 transfer → Between (pos 1) (pos 100000) capacity
+    → Within 30000000 (percentOutput power transfer capacity)
+unfolding percentOutput
+output-within power transfer capacity p t c =
+    let n = (power -ℤ transfer) *ℤ pos 100 in
+    let some : 0 < natAbs capacity = omega (arith, size capacity) in
+    let w : Within 30000000 n = omega (arith, times 100 (power -ℤ transfer), difference power transfer) in
+    let s : natAbs n ≤ 30000000 = within-size w in
+    let l : natAbs n ≤ 30000000 * natAbs capacity = omega arith in
+    nearest-within n (natAbs capacity) 30000000 some l
 
 fit : (s : tie.Start) → Fit (s .args .power) (s .args .transfer) (s .args .capacity) (s .args .frequency)
 fit s = second-fit (s .args .power) (s .args .transfer) (s .args .capacity) (s .args .frequency) (s .pre)
