@@ -1,0 +1,18 @@
+-- `bands::check` meets its contract, by that of `fit`. Assumes nothing.
+use Rattle.bands.specs.Bands.{bandsRefusal}
+use borrow.Author.Needs.{needs}
+use Rattle.bands.proofs.check.Statement.{statement}
+use Rattle.bands.proofs.check.Tie as tie
+
+fit-requires : tie.Need-fit-requires
+fit-requires c κs = search needs
+
+unless-requires : tie.Need-unless-requires
+unless-requires c κs = search needs
+
+returns : tie.Need-returns
+unfolding bandsRefusal
+returns c = cc
+
+pub check-spec : {M : Type 1} → statement M
+check-spec = tie.close (tie.spec fit-requires unless-requires returns)

@@ -1,0 +1,108 @@
+// The quality bands: which factor a rate brings.
+ghost use mathlib.Core.Path.{_≡_};
+ghost use Prim.Native.Nat.{_-_};
+ghost use lib.IntN.{pos};
+ghost use lib.ListN.{length, getD};
+ghost use Rattle.bands.specs.Bands.{fall, last, bandsFit, bandsRefusal, placeOf, answer, factorAnswer};
+
+// A factor in tenths, or the number of its refusal with 0.
+pub struct Factored {
+    pub refusal: u8,
+    pub factor: i64,
+}
+
+// Whether each threshold is above the next.
+fn fall(thresholds: &[i64]) -> bool
+    ensures { λ r. ⌜ r ≡ fall (now (thresholds .entry)) ⌝ }
+{
+    let mut i = 0;
+    while i + 1 < thresholds.len() {
+        let here = thresholds[i];
+        let next = thresholds[i + 1];
+        if here <= next {
+            return false;
+        }
+        i += 1;
+    }
+    true
+}
+
+// The number at a place, 0 past the end.
+fn at(run: &[i64], i: usize) -> i64
+    ensures { λ r. ⌜ r ≡ getD (now (run .entry)) i (pos 0) ⌝ }
+{
+    if i < run.len() {
+        return run[i];
+    }
+    0
+}
+
+// The last threshold, 0 if there is none.
+fn last(thresholds: &[i64]) -> i64
+    ensures { λ r. ⌜ r ≡ last (now (thresholds .entry)) ⌝ }
+{
+    let n = thresholds.len();
+    if n == 0 {
+        return 0;
+    }
+    at(thresholds, n - 1)
+}
+
+fn fit(thresholds: &[i64], factors: &[i64]) -> bool
+    ensures { λ r. ⌜ r ≡ bandsFit (now (thresholds .entry)) (now (factors .entry)) ⌝ }
+{
+    (1 <= thresholds.len())
+        & (thresholds.len() <= 16)
+        & (factors.len() == thresholds.len())
+        & whole::all_within(thresholds, 0, 100)
+        & whole::all_within(factors, -240, 10)
+        & fall(thresholds)
+        & whole::within(last(thresholds), 0, 0)
+}
+
+// 0, or 5 for bands against the rule.
+pub fn check(thresholds: &[i64], factors: &[i64]) -> u8
+    ensures { λ r. ⌜ r ≡ bandsRefusal (now (thresholds .entry)) (now (factors .entry)) ⌝ }
+{
+    whole::unless(fit(thresholds, factors), units::refusals::BAD_BANDS, 0)
+}
+
+// The place of the first threshold that is at most the rate; their number, if there is none.
+fn place(thresholds: &[i64], rate: i64) -> usize
+    ensures { λ r. ⌜ r ≡ placeOf (now (thresholds .entry)) rate ⌝ }
+{
+    let mut i = 0;
+    while i < thresholds.len() {
+        let t = thresholds[i];
+        if t <= rate {
+            return i;
+        }
+        i += 1;
+    }
+    i
+}
+
+fn answer(k: u8, factor: i64) -> Factored
+    ensures { λ r. ⌜ r ≡ answer k factor ⌝ }
+{
+    if k == 0 {
+        return Factored {
+            refusal: k,
+            factor: factor,
+        };
+    }
+    Factored {
+        refusal: k,
+        factor: 0,
+    }
+}
+
+// The factor of the first record whose threshold is at most the rate.
+pub fn factor(thresholds: &[i64], factors: &[i64], rate: u8) -> Factored
+    ensures { λ r. ⌜ r ≡ factorAnswer (now (thresholds .entry)) (now (factors .entry)) rate ⌝ }
+{
+    let reading = whole::unless(rate <= 100, units::refusals::BAD_READING, 0);
+    let k = whole::or_else(check(thresholds, factors), reading);
+    let found = at(factors, place(thresholds, rate as i64));
+    answer(k, found)
+}
