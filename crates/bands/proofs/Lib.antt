@@ -1,4 +1,5 @@
 -- What belongs to no one function; `pub` are the laws that crates above cite.
 mod Steps
 pub mod Laws
+mod Gathering
 mod Determined

@@ -4,6 +4,8 @@ ghost use Prim.Native.Nat.{_-_};
 ghost use lib.IntN.{pos};
 ghost use lib.ListN.{length, getD};
 ghost use Rattle.bands.specs.Bands.{fall, last, bandsFit, bandsRefusal, placeOf, answer, factorAnswer};
+ghost use Rattle.bands.specs.Records.{recordsRefusal, recordsAnswer};
+ghost use Rattle.bands.specs.Gathered.{none, next, gathered, refusalIn, answerIn};
 
 // A factor in tenths, or the number of its refusal with 0.
 pub struct Factored {
@@ -105,4 +107,103 @@ pub fn factor(thresholds: &[i64], factors: &[i64], rate: u8) -> Factored
     let k = whole::or_else(check(thresholds, factors), reading);
     let found = at(factors, place(thresholds, rate as i64));
     answer(k, found)
+}
+
+// A record of the list: from this rate on, this factor in tenths.
+pub struct Band {
+    pub threshold: i64,
+    pub factor: i64,
+}
+
+// The records of a slice as two columns, and how many there are; 17 stands for any number above 16.
+struct Columns {
+    thresholds: [i64; 16],
+    factors: [i64; 16],
+    count: usize,
+}
+
+fn none() -> Columns
+    ensures { λ r. ⌜ r ≡ none ⌝ }
+{
+    Columns {
+        thresholds: [0; 16],
+        factors: [0; 16],
+        count: 0,
+    }
+}
+
+// The columns with one record more.
+fn next(columns: Columns, band: Band) -> Columns
+    ensures { λ r. ⌜ r ≡ next columns band ⌝ }
+{
+    let at = columns.count;
+    let mut thresholds = columns.thresholds;
+    let mut factors = columns.factors;
+    if at < 16 {
+        let threshold = band.threshold;
+        let factor = band.factor;
+        thresholds[at] = threshold;
+        factors[at] = factor;
+        return Columns {
+            thresholds: thresholds,
+            factors: factors,
+            count: at + 1,
+        };
+    }
+    Columns {
+        thresholds: thresholds,
+        factors: factors,
+        count: 17,
+    }
+}
+
+fn check_columns(columns: Columns) -> u8
+    ensures { λ r. ⌜ r ≡ refusalIn columns ⌝ }
+{
+    let n = columns.count;
+    if 16 < n {
+        return units::refusals::BAD_BANDS;
+    }
+    let thresholds = columns.thresholds;
+    let factors = columns.factors;
+    check(&thresholds[..n], &factors[..n])
+}
+
+fn factor_in(columns: Columns, rate: u8) -> Factored
+    ensures { λ r. ⌜ r ≡ answerIn columns rate ⌝ }
+{
+    let n = columns.count;
+    if 16 < n {
+        return answer(units::refusals::BAD_BANDS, 0);
+    }
+    let thresholds = columns.thresholds;
+    let factors = columns.factors;
+    factor(&thresholds[..n], &factors[..n], rate)
+}
+
+// The one pass over a slice of records.
+fn columns_of(bands: &[Band]) -> Columns
+    ensures { λ r. ⌜ r ≡ gathered none (now (bands .entry)) ⌝ }
+{
+    let mut columns = none();
+    let mut i = 0;
+    while i < bands.len() {
+        columns = next(columns, bands[i]);
+        i += 1;
+    }
+    columns
+}
+
+// 0, or 5 for bands against the rule.
+pub fn check_bands(bands: &[Band]) -> u8
+    ensures { λ r. ⌜ r ≡ recordsRefusal (now (bands .entry)) ⌝ }
+{
+    check_columns(columns_of(bands))
+}
+
+// The factor of the first record whose threshold is at most the rate.
+pub fn factor_of(bands: &[Band], rate: u8) -> Factored
+    ensures { λ r. ⌜ r ≡ recordsAnswer (now (bands .entry)) rate ⌝ }
+{
+    factor_in(columns_of(bands), rate)
 }

@@ -1,0 +1,63 @@
+-- `bands::factor_in` meets its contract: the filled places of the columns are lent to `factor`. Assumes nothing.
+use mathlib.Core.Path.{_≡_, sym, _∙_}
+use native.Mathlib.Omega.{arith}
+use lib.ListN.{length}
+use lib.Seq.{length-take-le}
+use borrow.Author.Tests.{lt-leb, le-leb}
+use Rattle.bands.specs.Gathered.{answerIn}
+use borrow.Author.Needs.{needs}
+use Rattle.bands.proofs.factor_in.Statement.{statement}
+use Rattle.bands.proofs.factor_in.Tie as tie
+use Rattle.bands.proofs.factor_in.Reads as reads
+use Rattle.bands.proofs.factor_in.Lts as lts
+use Rattle.bands.proofs.answer.Reads as answer-reads
+use Rattle.bands.proofs.factor.Reads as factor-reads
+
+answer-requires : tie.Need-answer-requires
+answer-requires c κs = search needs
+
+returns : tie.Need-returns
+unfolding answerIn
+returns c = c .answer .ensures ∙ sym (rw (lt-leb (c .before .before .args .columns .count) 16 (c .before .if1 .taken), answerIn))
+
+-- each column has 16 places
+places : (c : tie.Start) → (length (c .args .columns .thresholds) ≡ 16) × (length (c .args .columns .factors) ≡ 16)
+places c = (search needs, search needs)
+
+array-share-prefix-thresholds : tie.Need-array-share-prefix-thresholds
+array-share-prefix-thresholds c = omega (arith, places (c .before .before .before) .0)
+
+slice-aggregate-factor : tie.Need-slice-aggregate-factor
+slice-aggregate-factor c =
+    let s = c .before .before .before .before in
+    sym (length-take-le (s .args .columns .count) (s .args .columns .thresholds) (omega (arith, places s .0)))
+
+array-share-prefix-factors : tie.Need-array-share-prefix-factors
+array-share-prefix-factors c = omega (arith, places (c .before .before .before .before) .1)
+
+slice-aggregate-factor-2 : tie.Need-slice-aggregate-factor-2
+slice-aggregate-factor-2 c =
+    let s = c .before .before .before .before .before in
+    sym (length-take-le (s .args .columns .count) (s .args .columns .factors) (omega (arith, places s .1)))
+
+factor-requires : tie.Need-factor-requires
+factor-requires c κs = search needs
+
+returns-2 : tie.Need-returns-2
+unfolding answerIn
+returns-2 c =
+    let e = c .before .before .before .before .before in
+    c .factor .ensures ∙ sym (rw (le-leb (e .before .args .columns .count) 16 (e .if1 .left), answerIn))
+
+pub factor-in-spec : {M : Type 1} → statement M
+factor-in-spec =
+    tie.close
+    (tie.spec
+    answer-requires
+    returns
+    array-share-prefix-thresholds
+    slice-aggregate-factor
+    array-share-prefix-factors
+    slice-aggregate-factor-2
+    factor-requires
+    returns-2)
