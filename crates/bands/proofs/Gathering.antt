@@ -2,7 +2,7 @@
 -- are too many, which is 5 either way. By induction on the records. Assumes nothing.
 use Prim.Native.Nat.{ℕ, _+_, _≤_, _<_}
 use mathlib.Core.Path.{_≡_, refl, sym, ap, _∙_}
-use mathlib.Core.Bool.{Bool, true, false, _&&_, and-false}
+use mathlib.Core.Bool.{true, false, and-false}
 use mathlib.Core.List.{List, [], _∷_, _++_, append-assoc, append-nil}
 use native.Mathlib.Omega.{arith}
 use native.Mathlib.Numerals.{add-one}
@@ -14,7 +14,6 @@ use borrow.Author.Tests.{ltb-true, ltb-false, leb-true, leb-false, lt-ltb, le-lt
 use Rattle.whole.proofs.Choice.{by-test}
 use Rattle.bands.specs.declared.Band.{Band}
 use Rattle.bands.specs.declared.Columns.{Columns}
-use Rattle.bands.specs.declared.Factored.{Factored}
 use Rattle.bands.specs.Bands.{bandsFit, bandsRefusal, factorRefusal, answer, factorAnswer}
 use Rattle.bands.specs.Records.{thresholdsOf, factorsOf, recordsRefusal, recordsAnswer}
 use Rattle.bands.specs.Gathered.{none, next, gathered, refusalIn, answerIn}

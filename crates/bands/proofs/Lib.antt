@@ -2,4 +2,5 @@
 mod Steps
 pub mod Laws
 mod Gathering
+mod Lent
 mod Determined

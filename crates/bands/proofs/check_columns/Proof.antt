@@ -8,9 +8,6 @@ use Rattle.bands.specs.Gathered.{refusalIn}
 use borrow.Author.Needs.{needs}
 use Rattle.bands.proofs.check_columns.Statement.{statement}
 use Rattle.bands.proofs.check_columns.Tie as tie
-use Rattle.bands.proofs.check_columns.Reads as reads
-use Rattle.bands.proofs.check_columns.Lts as lts
-use Rattle.bands.proofs.check.Reads as check-reads
 
 -- each column has 16 places
 places : (c : tie.Start) → (length (c .args .columns .thresholds) ≡ 16) × (length (c .args .columns .factors) ≡ 16)

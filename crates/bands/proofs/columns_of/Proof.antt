@@ -1,5 +1,6 @@
--- `bands::columns_of` meets its contract: a walk of its MIR, by hand. A turn of the loop looks into the slice, copies one band out of it, and hands it to `next`.
--- All that is known of `none` and of `next` is that each meets its contract. What a band and the columns own are facts, so they are made anew wherever they are asked (`makes`), and a turn carries only what it knows of them (`State`).
+-- `bands::columns_of` meets its contract: its steps are walked by hand, since the checker covers no slice of structs. The loop's state is
+-- the index and the columns so far, and what is left of the slice decides; a turn opens the slice, copies one record out, shuts it and calls
+-- `next`. Of `none` and `next` nothing is used but their contracts. Numbers own nothing but facts, so a turn carries the facts alone.
 -- Assumes nothing.
 use mathlib.Core.Path.{_≡_, refl, sym, ap}
 use mathlib.Core.Bool.{Bool, true, false}
@@ -78,11 +79,11 @@ word = tyInt w64
 abbrev slice : Ty
 slice = sliceTy (tyRef (named 0) imm (pointee (B.the-row .written)))
 
--- past the end
+-- the default of a place that is not there
 abbrev no-band : Band
 no-band = record { threshold = pos 0; factor = pos 0 }
 
--- what a turn begins with: the index, the columns so far, and their machine value
+-- how a turn begins; `value` is how the machine holds the columns
 record State (ys : List Band) : Type 0 where
   i : ℕ
   columns : Columns
@@ -118,14 +119,13 @@ ended-at ys t over =
     rw (e, drop-length) at (t .left)
 
 module _ {M : Type 1} (𝓤 : URA M) (H : Heap 𝓤) (A : Atoms 𝓤) (mem : Memory → SProp 𝓤) (run : Routine → Fun 𝓤) where
-  -- the contracts that the proof cites
   abbrev None : Contract 𝓤
   None = tripleOf 𝓤 H A none′.signature (none′.spec 𝓤 H A mem run)
 
   abbrev Next : Contract 𝓤
   Next = tripleOf 𝓤 H A next′.signature (next′.spec 𝓤 H A mem run)
 
-  -- of each callee's `ensured`, the clause alone
+  -- what each says of its answer
   none-said : (r : Columns) → ent 𝓤 (ensured 𝓤 H A none′.ended (none′.clauses 𝓤 H A mem run) tt tt tt r) (fact 𝓤 (r ≡ none))
   none-said r = exE 𝓤 _ (λ ws. snd∗ 𝓤 (sem 𝓤 H A (lasts none′.ended tt tt ws)) (fact 𝓤 (r ≡ none)))
 
@@ -148,7 +148,7 @@ module _ {M : Type 1} (𝓤 : URA M) (H : Heap 𝓤) (A : Atoms 𝓤) (W : Given
   abbrev Own : Fml
   Own = ShrSlice (named 0) κ B.the-row .own x (v ∷ [])
 
-  -- a share of all the elements, under the lifetime
+  -- a part in all the records, as long as the reference lives
   abbrev Shared : Fml
   Shared = fshr-bor κ (λ s. arr-parts (shares B.the-row) n .part s ys b o)
 
@@ -165,7 +165,7 @@ module _ {M : Type 1} (𝓤 : URA M) (H : Heap 𝓤) (A : Atoms 𝓤) (W : Given
   goes-none : ent 𝓤 (emp 𝓤) (None 𝓤 H A mem run .pre to-none)
   goes-none = qed W [] ∵ nothing ! $ nothing ! $ join ! $ frame ! $ done !
 
-  -- the machine value of a band
+  -- how the machine holds a record
   abbrev low : Band → Val
   low y = B′.lowered y
 
@@ -190,17 +190,18 @@ module _ {M : Type 1} (𝓤 : URA M) (H : Heap 𝓤) (A : Atoms 𝓤) (W : Given
     abbrev En : Env 𝓤 H
     En = (S′.mir, l₀) ∷ (slice, l₁) ∷ (S′.mir, l₂) ∷ (word, l₃) ∷ (word, l₄) ∷ (tyBool, l₅) ∷ (tyPtr, l₆) ∷ (B′.mir, l₇) ∷ []
 
-    -- 0 the token, 1 the share, 2 _7 the band, 4 _6 its place, 6 _5 the test, 8 _4, 10 _3 i, 12 _2 columns, 14 _1 bands, 16 _0 the result, 18 what bands owns
+    -- by position: 0 that the reference lives, 1 the part in the records, then two for each local from the last to the first: 2 the record,
+    -- 4 its address, 6 the test, 8 a number, 10 i, 12 the columns, 14 the slice, 16 the result; 18 what the reference owns
     abbrev At : State ys → List (Item 𝓤)
     At t = ‵ (flft κ q) ∷ ‵ Shared ∷ ‵ (froom B′.mir l₇ 0) ∷ ‵ (fdies B′.mir l₇) ∷ ‵ (froom tyPtr l₆ 0) ∷ ‵ (fdies tyPtr l₆) ∷ ‵ (froom tyBool l₅ 0) ∷ ‵ (fdies tyBool l₅)
         ∷ ‵ (froom word l₄ 0) ∷ ‵ (fdies word l₄) ∷ ‵ (fat fullShare word l₃ 0 (vint w64 (t .i))) ∷ ‵ (fdies word l₃) ∷ ‵ (fat fullShare S′.mir l₂ 0 (t .value)) ∷ ‵ (fdies S′.mir l₂)
         ∷ ‵ (fat fullShare slice l₁ 0 v) ∷ ‵ (fdies slice l₁) ∷ ‵ (froom S′.mir l₀ 0) ∷ ‵ (fdies S′.mir l₀) ∷ ‵ Own ∷ []
 
-    -- a turn's postcondition: it ends nearer to the end, or the loop is left and the rest of the body runs
+    -- after a turn: another one nearer to the end, or what stands behind the loop
     abbrev Turned : State ys → Out → SProp 𝓤
     Turned t = afterTurn 𝓤 H (Below 𝓤 H A (Nearer ys) At t) (afterBlock 𝓤 H (afterSeq 𝓤 H (Wp 𝓤 H C Λ En code-mir.t-4 (atReturn 𝓤 H En Post)) (atReturn 𝓤 H En Post)))
 
-    -- the turn that leaves the loop, and the rest of the body
+    -- no record is left
     ends : (t : State ys) → ltb (t .i) n ≡ false → Sq W (At t) (runs C Λ En code-mir.turn-1 (anyQ (Turned t)))
     unfolding afterTurn
     ends t over =
@@ -214,7 +215,7 @@ module _ {M : Type 1} (𝓤 : URA M) (H : Heap 𝓤) (A : Atoms 𝓤) (W : Given
         move ! (8 ∷ 9 ∷ []) $ free1 ! $ move ! (6 ∷ 7 ∷ []) $ free1 ! $ move ! (4 ∷ 5 ∷ []) $ free1 ! $ move ! (2 ∷ 3 ∷ []) $ free1 ! $ free0 ! $
         keep ! (0 ∷ 2 ∷ []) $ by ! (exits t (ended-at ys t (ltb-false (t .i) n over)))
 
-    -- a turn that takes one band
+    -- one more record
     more : (t : State ys) → ltb (t .i) n ≡ true → Sq W (At t) (runs C Λ En code-mir.turn-1 (anyQ (Turned t)))
     unfolding afterTurn goes-on
     more t test =
@@ -222,16 +223,15 @@ module _ {M : Type 1} (𝓤 : URA M) (H : Heap 𝓤) (A : Atoms 𝓤) (W : Given
         assigns ! (bin ! (load ! (from ! (stop !)) (look ! 10 refl)) (load ! (from ! (stop !)) (look ! 8 refl)) tt) (from ! (stop !)) (init ! 6 refl (tt, tt)) $
         rewrite ! 6 (λ (z : Bool). ‵ (fat fullShare tyBool l₅ 0 (vbool z))) test refl $
         stays ! (load ! (from ! (stop !)) (look ! 6 refl)) $
-        -- the place of the band, which is copied out of the slice
+        -- its address, and the record copied out of the opened slice
         assigns ! (bin ! (load ! (from ! (stop !)) (look ! 10 refl)) (lit ! tt) (record { fits = far })) (from ! (stop !)) (store ! 8 refl (tt, record { fits = far })) $
         assigns ! (bin ! (load ! (from ! (fld ! refl (stop !))) (look-in ! 14 (sub ! 0 refl (whole !)))) (load ! (from ! (stop !)) (look ! 8 refl)) tt) (from ! (stop !)) (init ! 4 refl (tt, tt)) $
         rewrite ! 4 (λ (p : ℕ). ‵ (fat fullShare tyPtr l₆ 0 (vptr b p))) (sym (place-is 16 o (t .i))) refl $
         move ! (1 ∷ 0 ∷ []) $ looks-slice ! tt B.the-row (Is B.the-row) (shows 𝓤 H A B.the-row) (LL.vals B.the-type B′.the-laws) (LL.tells B.the-type B′.the-laws) (LL.copy B.the-type B′.the-copy 𝓤 H A W) ys b o (λ q′.
         elem-out ! B.the-row (Is B.the-row) (shows 𝓤 H A B.the-row) (LL.vals B.the-type B′.the-laws) (LL.tells B.the-type B′.the-laws) q′ ys (t .i) no-band b o less (λ g.
-        -- 0 the band in memory, 1 what it owns, 2 the others, 3 what shuts, 4 the share, 5 _7, 7 _6, …
         assigns ! (of-opd ! (load ! (from ! (hop ! (look ! 7 refl) (stop !))) (look-raw ! 0 refl))) (from ! (stop !)) (init ! 5 refl (LL.lawful B.the-type B′.the-laws 𝓤 H A W .typed y (low y ∷ []) g .0)) $
         elem-back ! B.the-row q′ ys (t .i) no-band (low y ∷ []) b o less $ shuts-slice ! tt B.the-row q′ ys b o $
-        -- the call of `next`: 0 what it asks, and the context is one further
+        -- the call of `next`
         use0 W (raw (Next 𝓤 H A mem run .pre (to-next (t .columns) (t .value) y))) (goes-next (t .columns) (t .value) y (t .is) g) $
         calls-at ! (fmOf 𝓤 H (W .laws) 𝓣) (Next 𝓤 H A mem run) known-next (to-next (t .columns) (t .value) y) (and-then ! (load ! (from ! (stop !)) (look ! 13 refl)) (and-then ! (load ! (from ! (stop !)) (look ! 3 refl)) (no-more !))) (λ u.
         use1 W (later (some (λ (r : Columns). (‵ ftrue ⊛ ‵ (S.the-row .own r (u ∷ []))) ⊛ raw (ensured 𝓤 H A next′.ended (next′.clauses 𝓤 H A mem run) tt (t .columns, (y, tt)) tt r)))) (id⊢ 𝓤 _) $ await ! tt $ pick ! (λ r.
@@ -264,7 +264,7 @@ module _ {M : Type 1} (𝓤 : URA M) (H : Heap 𝓤) (A : Atoms 𝓤) (W : Given
     looped : (t : State ys) → Sq W (At t) (runs C Λ En code-mir.t-3 (atRet En Post))
     looped t₀ = first ! $ blocks ! $ loops ! 𝓣 (Nearer ys) (Nearer-wf ys) At (λ t. turns t (ltb (t .i) n) refl) t₀
 
-  -- the MIR up to the loop
+  -- up to the loop
   walk : (𝓣 : Tables 𝓤 H) → Triple 𝓤 (𝓣 .C #bands·none) (None 𝓤 H A mem run) → Triple 𝓤 (𝓣 .C #bands·next) (Next 𝓤 H A mem run)
       → ent 𝓤 (onEntry 𝓤 H A of.signature (κ, tt) (q, tt) (x, tt) (v ∷ [], tt)) (WpFn 𝓤 H (𝓣 .C) (𝓣 .Λ) code.function (v ∷ []) Post)
   unfolding begins
@@ -279,10 +279,9 @@ module _ {M : Type 1} (𝓤 : URA M) (H : Heap 𝓤) (A : Atoms 𝓤) (W : Given
       peeks ! S.the-row (Is S.the-row) (shows 𝓤 H A S.the-row) r (u ∷ []) (λ is. drop ! $
       land ! (from ! (stop !)) (init ! 10 refl (typed r u is)) $
       assigns ! (of-opd ! (lit ! tt)) (from ! (stop !)) (init ! 8 refl (tt, record { fits = lit< tt })) $
-      -- of what the slice reference owns one copy is kept for the exit, and of the other the share
+      -- the reference is copied: one for the end, and of the other the part in the records
       move ! (17 ∷ []) $ fsplit ! $ use1 W (‵ Own ⊛ ‵ Own) (shr-slice-copy 𝓤 H A W (named 0) κ B.the-row .twice x (v ∷ [])) $ split ! $
       fsplit ! $ move ! (1 ∷ []) $ fsplit ! $ move ! (21 ∷ []) $ split ! $
-      -- 0 the token, 1 true, 2 res, 3 the share, 4 facts, 5 what bands owns, 6 true, 7 _7, …
       keep ! (0 ∷ 3 ∷ 7 ∷ 8 ∷ 9 ∷ 10 ∷ 11 ∷ 12 ∷ 13 ∷ 14 ∷ 15 ∷ 16 ∷ 17 ∷ 18 ∷ 19 ∷ 20 ∷ 21 ∷ 22 ∷ 5 ∷ []) $
       looped 𝓣 known-next l₀ l₁ l₂ l₃ l₄ l₅ l₆ l₇ (begins ys r u is e)))))))))))))
 

@@ -8,10 +8,6 @@ use Rattle.bands.specs.Gathered.{answerIn}
 use borrow.Author.Needs.{needs}
 use Rattle.bands.proofs.factor_in.Statement.{statement}
 use Rattle.bands.proofs.factor_in.Tie as tie
-use Rattle.bands.proofs.factor_in.Reads as reads
-use Rattle.bands.proofs.factor_in.Lts as lts
-use Rattle.bands.proofs.answer.Reads as answer-reads
-use Rattle.bands.proofs.factor.Reads as factor-reads
 
 answer-requires : tie.Need-answer-requires
 answer-requires c κs = search needs

@@ -7,8 +7,6 @@ use Rattle.bands.specs.Gathered.{next}
 use borrow.Author.Needs.{needs}
 use Rattle.bands.proofs.next.Statement.{statement}
 use Rattle.bands.proofs.next.Tie as tie
-use Rattle.bands.proofs.next.Reads as reads
-use Rattle.bands.proofs.next.Lts as lts
 
 mul-thresholds : tie.Need-mul-thresholds
 mul-thresholds c = search needs

@@ -3,8 +3,6 @@ use mathlib.Core.Path.{refl}
 use Rattle.bands.specs.Gathered.{none}
 use Rattle.bands.proofs.none.Statement.{statement}
 use Rattle.bands.proofs.none.Tie as tie
-use Rattle.bands.proofs.none.Reads as reads
-use Rattle.bands.proofs.none.Lts as lts
 
 returns : tie.Need-returns
 unfolding none
