@@ -211,6 +211,15 @@ energy-within powers targets discharge charge =
     (within-size (parts-within (energy-fits powers targets discharge charge e) 4 (omega arith))))
     (nothing 20000000)
 
+-- quality part and energy service fee together: no amount of an hour is larger, whatever was handed in
+pub amount-within : (capacity performance : Dollars) (factor : ℤ) (powers targets : List ℤ) (discharge charge : ℤ)
+    → Within 500000000 (qualityAnswer capacity performance factor .dollars .0 +ℤ energyAnswer powers targets discharge charge .dollars .0)
+amount-within capacity performance factor powers targets discharge charge =
+    together _ _ (quality-within capacity performance factor) (energy-within powers targets discharge charge)
+  where
+    together : (x y : ℤ) → Within 480000000 x → Within 20000000 y → Within 500000000 (x +ℤ y)
+    together x y v w = omega (arith, sum x y)
+
 -- an hour without transfer has no energy service
 pub no-energy : (powers targets : List ℤ) (discharge charge : ℤ) → ((q : ℕ) → q < 4 → getD targets q (pos 0) ≡ pos 0) → energyFee powers targets discharge charge ≡ pos 0
 unfolding energyFee quarterPart signedPrice foldTo nearest withSign halfUp

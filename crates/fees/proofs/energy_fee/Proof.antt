@@ -3,11 +3,11 @@ use mathlib.Core.Path.{_≡_, sym, ap, _∙_}
 use lib.IntN.{ℤ}
 use mir.Syntax.{w64}
 use mir.Facts.{toZ-ofZ}
+use borrow.Author.Needs.{needs}
 use Rattle.whole.proofs.Choice.{kept-old}
 use Rattle.whole.proofs.Signed.{back}
 use Rattle.fees.specs.Fees.{granted, refused, energyRefusal, energyAnswer}
 use Rattle.fees.proofs.Laws.{energy-fits, energy-granted}
-use borrow.Author.Needs.{needs}
 use Rattle.fees.proofs.energy_fee.Statement.{statement}
 use Rattle.fees.proofs.energy_fee.Tie as tie
 

@@ -1,7 +1,7 @@
 -- `fees::energy_refusal` meets its contract: its tests are the definition's, in the same order. Assumes nothing.
 use mir.Facts.{toZ-ofZ}
-use Rattle.fees.specs.Fees.{energyRefusal}
 use borrow.Author.Needs.{needs}
+use Rattle.fees.specs.Fees.{energyRefusal}
 use Rattle.fees.proofs.energy_refusal.Statement.{statement}
 use Rattle.fees.proofs.energy_refusal.Tie as tie
 

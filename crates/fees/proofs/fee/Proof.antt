@@ -4,13 +4,13 @@ use lib.IntN.{ℤ}
 use mir.Syntax.{w64}
 use mir.Val.{SFits}
 use mir.Facts.{toZ-ofZ}
+use borrow.Author.Needs.{needs}
 use Rattle.whole.proofs.Choice.{kept-old}
 use Rattle.whole.proofs.Signed.{back, within-fits}
 use Rattle.fees.specs.Fees.{granted, refused, feeRefusal, feeAnswer}
 use Rattle.fees.specs.Fees.{fee as feeFormula}
 use Rattle.fees.proofs.Bounds.{to-within}
 use Rattle.fees.proofs.Laws.{FeeFits, fee-fits, fee-product, fee-granted}
-use borrow.Author.Needs.{needs}
 use Rattle.fees.proofs.fee.Statement.{statement}
 use Rattle.fees.proofs.fee.Tie as tie
 

@@ -1,7 +1,6 @@
 -- `fees::four_quarters` meets its contract. The loop's invariant: the sum is that of the quarters passed, so that it fits. Assumes nothing.
-use mathlib.Core.Path.{ap₂}
+use mathlib.Core.Path.{ap₂, _≡_, sym, _∙_}
 use Prim.Native.Nat.{_+_, _-_, _≤_}
-use mathlib.Core.Path.{_≡_, sym, _∙_}
 use native.Mathlib.Omega.{arith}
 use lib.IntN.{ℤ, pos, _+ℤ_}
 use mir.Syntax.{w64}

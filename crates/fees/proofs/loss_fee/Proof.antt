@@ -3,10 +3,10 @@ use mathlib.Core.Path.{_≡_, sym, ap, _∙_}
 use Prim.Native.Nat.{ℕ}
 use lib.IntN.{pos}
 use mir.Facts.{toZ-ofZ}
+use borrow.Author.Needs.{needs}
 use Rattle.whole.proofs.Choice.{kept-old}
 use Rattle.fees.specs.Loss.{lossRefusal, added, lossAnswer}
 use Rattle.fees.proofs.LossLaws.{loss-fits, loss-granted}
-use borrow.Author.Needs.{needs}
 use Rattle.fees.proofs.loss_fee.Statement.{statement}
 use Rattle.fees.proofs.loss_fee.Tie as tie
 

@@ -1,7 +1,7 @@
 -- `fees::loss_refusal` meets its contract: its tests are the definition's, in the same order. Assumes nothing.
 use mir.Facts.{toZ-ofZ}
-use Rattle.fees.specs.Loss.{lossRefusal}
 use borrow.Author.Needs.{needs}
+use Rattle.fees.specs.Loss.{lossRefusal}
 use Rattle.fees.proofs.loss_refusal.Statement.{statement}
 use Rattle.fees.proofs.loss_refusal.Tie as tie
 

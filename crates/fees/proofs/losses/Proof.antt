@@ -4,11 +4,11 @@ use lib.IntN.{ℤ, _*ℤ_}
 use mir.Syntax.{w64}
 use mir.Val.{toZ, ofZ}
 use mir.Facts.{toZ-ofZ}
+use borrow.Author.Needs.{needs}
 use Rattle.whole.proofs.Signed.{signed, inside, back, within-fits, times}
 use Rattle.fees.specs.Loss.{net, above, percent, basicFee, excessFee, added}
 use Rattle.fees.proofs.Bounds.{to-within, sum-between}
 use Rattle.fees.proofs.LossLaws.{LossFits, loss-fits, net-between, price-between, basic-product, excess-half, excess-product, basic-between, excess-between}
-use borrow.Author.Needs.{needs}
 use Rattle.fees.proofs.losses.Statement.{statement}
 use Rattle.fees.proofs.losses.Tie as tie
 

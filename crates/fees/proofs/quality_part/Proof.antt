@@ -4,11 +4,11 @@ use lib.IntN.{ℤ}
 use mir.Syntax.{w64}
 use mir.Val.{SFits}
 use mir.Facts.{toZ-ofZ}
+use borrow.Author.Needs.{needs}
 use Rattle.whole.proofs.Choice.{kept-old}
 use Rattle.whole.proofs.Signed.{back, within-fits}
 use Rattle.fees.specs.Fees.{granted, refused, qualityPart, qualityRefusal, qualityAnswer}
 use Rattle.fees.proofs.Laws.{QualityFits, quality-fits, fees-within, quality-product, quality-granted}
-use borrow.Author.Needs.{needs}
 use Rattle.fees.proofs.quality_part.Statement.{statement}
 use Rattle.fees.proofs.quality_part.Tie as tie
 

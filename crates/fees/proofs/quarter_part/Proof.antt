@@ -7,13 +7,13 @@ use lib.ListN.{getD}
 use mir.Syntax.{w64}
 use mir.Val.{SFits, toZ, ofZ}
 use mir.Facts.{toZ-ofZ}
+use borrow.Author.Needs.{needs}
 use Rattle.whole.specs.Folds.{sumOf}
 use Rattle.whole.specs.declared.Summed.{Summed}
 use Rattle.whole.proofs.Signed.{back, within-fits}
 use Rattle.whole.proofs.Sums.{summed-is}
 use Rattle.fees.specs.Fees.{signedPrice, quarter, quarterPart}
 use Rattle.fees.proofs.Laws.{EnergyFits, energy-fits, quarter-summable, part-within}
-use borrow.Author.Needs.{needs}
 use Rattle.fees.proofs.quarter_part.Statement.{statement}
 use Rattle.fees.proofs.quarter_part.Tie as tie
 
