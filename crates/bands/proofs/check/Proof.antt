@@ -1,6 +1,6 @@
 -- `bands::check` meets its contract, by that of `fit`. Assumes nothing.
-use Rattle.bands.specs.Bands.{bandsRefusal}
 use borrow.Author.Needs.{needs}
+use Rattle.bands.specs.Bands.{bandsRefusal}
 use Rattle.bands.proofs.check.Statement.{statement}
 use Rattle.bands.proofs.check.Tie as tie
 

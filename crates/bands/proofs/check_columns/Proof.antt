@@ -4,8 +4,8 @@ use native.Mathlib.Omega.{arith}
 use lib.ListN.{length}
 use lib.Seq.{length-take-le}
 use borrow.Author.Tests.{lt-leb, le-leb}
-use Rattle.bands.specs.Gathered.{refusalIn}
 use borrow.Author.Needs.{needs}
+use Rattle.bands.specs.Gathered.{refusalIn}
 use Rattle.bands.proofs.check_columns.Statement.{statement}
 use Rattle.bands.proofs.check_columns.Tie as tie
 

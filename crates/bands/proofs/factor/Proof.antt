@@ -6,9 +6,9 @@ use lib.ListN.{getD}
 use mir.Syntax.{w64}
 use mir.Val.{toZ}
 use mir.Facts.{toZ-ofZ}
+use borrow.Author.Needs.{needs}
 use Rattle.whole.proofs.Signed.{back}
 use Rattle.bands.specs.Bands.{factorRefusal, factorAnswer}
-use borrow.Author.Needs.{needs}
 use Rattle.bands.proofs.factor.Statement.{statement}
 use Rattle.bands.proofs.factor.Tie as tie
 

@@ -4,8 +4,8 @@ use native.Mathlib.Omega.{arith}
 use lib.ListN.{length}
 use lib.Seq.{length-take-le}
 use borrow.Author.Tests.{lt-leb, le-leb}
-use Rattle.bands.specs.Gathered.{answerIn}
 use borrow.Author.Needs.{needs}
+use Rattle.bands.specs.Gathered.{answerIn}
 use Rattle.bands.proofs.factor_in.Statement.{statement}
 use Rattle.bands.proofs.factor_in.Tie as tie
 

@@ -1,8 +1,8 @@
 -- `bands::fit` meets its contract: its tests are the definition's. Assumes nothing.
 use mir.Syntax.{w64}
+use borrow.Author.Needs.{needs}
 use Rattle.whole.proofs.Signed.{back}
 use Rattle.bands.specs.Bands.{bandsFit}
-use borrow.Author.Needs.{needs}
 use Rattle.bands.proofs.fit.Statement.{statement}
 use Rattle.bands.proofs.fit.Tie as tie
 

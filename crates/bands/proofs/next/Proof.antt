@@ -3,8 +3,8 @@ use mir.Syntax.{w64}
 use mir.Val.{SFits}
 use mir.Facts.{toZ-ofZ}
 use borrow.Author.Tests.{lt-ltb, le-ltb}
-use Rattle.bands.specs.Gathered.{next}
 use borrow.Author.Needs.{needs}
+use Rattle.bands.specs.Gathered.{next}
 use Rattle.bands.proofs.next.Statement.{statement}
 use Rattle.bands.proofs.next.Tie as tie
 
