@@ -1,0 +1,93 @@
+-- What a refusal that is 0 says of an hour's inputs, and what the refusal decides of the answer and of the lent run. Assumes nothing.
+use Prim.Native.Nat.{ℕ, _+_, _≤_}
+use mathlib.Core.Path.{_≡_, refl, ap, _∙_}
+use mathlib.Core.Bool.{Bool, true, false, _&&_}
+use mathlib.Core.List.{List}
+use native.Mathlib.Omega.{arith}
+use lib.Dec.{eqb}
+use lib.IntN.{ℤ, pos, _+ℤ_}
+use lib.ListN.{length}
+use mir.Syntax.{w64}
+use mir.Val.{SFits}
+use borrow.Author.Tests.{eqb-true, ne-eqb}
+use Rattle.whole.specs.Whole.{minus, Within, allInRange}
+use Rattle.whole.specs.Runs.{listed}
+use Rattle.whole.proofs.Choice.{and-both, passed, both-passed, kept-new, kept-old}
+use Rattle.whole.proofs.Signed.{signed}
+use Rattle.units.specs.declared.Dollars.{Dollars}
+use Rattle.bands.specs.Bands.{bandsRefusal}
+use Rattle.score.specs.Score.{isCapacity}
+use Rattle.fees.specs.Fees.{qualityAnswer, energyAnswer}
+use Rattle.fees.proofs.Laws.{quality-within, energy-within}
+use Rattle.hour.specs.Hour.{lengthsFit, pricesFit, readingsFit, hourRefusal, scoreAt, scoresOf, scoresLeft, settledOf, refusedOf, hourOf}
+use Rattle.hour.specs.declared.Terms.{Terms}
+
+-- three runs of 3,600
+pub record Long (powers frequencies places : ℕ) : Type 0 where
+  pub of-powers : powers ≡ 3600
+  pub of-frequencies : frequencies ≡ 3600
+  pub of-places : places ≡ 3600
+
+pub long : (powers frequencies places : ℕ) → lengthsFit powers frequencies places ≡ true → Long powers frequencies places
+long p f s e =
+    let a = and-both (eqb p 3600 && eqb f 3600) (eqb s 3600) e in
+    let b = and-both (eqb p 3600) (eqb f 3600) (a .0) in
+    record { of-powers = eqb-true p 3600 (b .0); of-frequencies = eqb-true f 3600 (b .1); of-places = eqb-true s 3600 (a .1) }
+
+pub scores-done : (powers frequencies : List ℤ) (t : Terms) (n : ℕ) → n ≡ 3600 → listed (scoreAt powers frequencies t) 0 n ≡ scoresOf powers frequencies t
+unfolding scoresOf
+scores-done powers frequencies t n e = ap (listed (scoreAt powers frequencies t) 0) e
+
+-- an hour that is not refused
+pub record Fit (powers frequencies : List ℤ) (places : ℕ) (t : Terms) (thresholds factors : List ℤ) : Type 0 where
+  pub lengths : lengthsFit (length powers) (length frequencies) places ≡ true
+  pub capacity : isCapacity (t .capacity .0) ≡ true
+  pub prices : pricesFit t ≡ true
+  pub bands : bandsRefusal thresholds factors ≡ 0
+  pub targets : allInRange (minus 100000) (pos 100000) (t .targets) ≡ true
+  pub readings : readingsFit powers frequencies ≡ true
+
+pub fit : (powers frequencies : List ℤ) (places : ℕ) (t : Terms) (thresholds factors : List ℤ)
+    → hourRefusal powers frequencies places t thresholds factors ≡ 0 → Fit powers frequencies places t thresholds factors
+unfolding hourRefusal
+fit powers frequencies places t ts fs e =
+    let a = passed (lengthsFit (length powers) (length frequencies) places) 0 _ e in
+    let b = passed (isCapacity (t .capacity .0)) 1 _ (a .1) in
+    let c = passed (pricesFit t) 2 _ (b .1) in
+    let d = both-passed (bandsRefusal ts fs) _ (c .1) in
+    let f = passed (allInRange (minus 100000) (pos 100000) (t .targets)) 9 _ (d .1) in
+    let g = passed (readingsFit powers frequencies) 3 0 (f .1) in
+    record { lengths = a .0; capacity = b .0; prices = c .0; bands = d .0; targets = f .0; readings = g .0 }
+
+-- the amount of any parts fits
+pub amount-fits : (capacity performance : Dollars) (factor : ℤ) (powers targets : List ℤ) (discharge charge : ℤ)
+    → SFits w64 (qualityAnswer capacity performance factor .dollars .0 +ℤ energyAnswer powers targets discharge charge .dollars .0)
+amount-fits capacity performance factor powers targets discharge charge =
+    let q = quality-within capacity performance factor in
+    let e = energy-within powers targets discharge charge in
+    both-fit (qualityAnswer capacity performance factor .dollars .0) (energyAnswer powers targets discharge charge .dollars .0) q e
+  where
+    both-fit : (x y : ℤ) → Within 480000000 x → Within 20000000 y → SFits w64 (x +ℤ y)
+    both-fit x y a b = omega signed
+
+-- ---- what the refusal decides
+
+module _ (powers frequencies : List ℤ) (t : Terms) (thresholds factors : List ℤ) (run : List ℕ) where
+  abbrev number : ℕ
+  number = hourRefusal powers frequencies (length run) t thresholds factors
+
+  pub hour-granted : number ≡ 0 → settledOf powers t thresholds factors (scoresOf powers frequencies t) ≡ hourOf powers frequencies (length run) t thresholds factors
+  unfolding hourOf
+  hour-granted e = rw e
+
+  pub hour-refused : (number ≡ 0 → ⊥) → refusedOf number ≡ hourOf powers frequencies (length run) t thresholds factors
+  unfolding hourOf
+  hour-refused h = rw (ne-eqb number 0 h)
+
+  pub scores-granted : number ≡ 0 → scoresLeft powers frequencies t thresholds factors run ≡ scoresOf powers frequencies t
+  unfolding scoresLeft
+  scores-granted e = kept-new _ run e
+
+  pub scores-refused : (number ≡ 0 → ⊥) → scoresLeft powers frequencies t thresholds factors run ≡ run
+  unfolding scoresLeft
+  scores-refused h = kept-old _ run h

@@ -1,0 +1,21 @@
+-- `hour::join` meets its contract: by its one test. Assumes nothing.
+use mathlib.Core.Path.{_≡_, refl, sym, ap, ap₂, _∙_}
+use borrow.Author.Tests.{eq-eqb, ne-eqb}
+use Rattle.hour.specs.Joint.{joined}
+use borrow.Author.Needs.{needs}
+use Rattle.hour.proofs.join.Statement.{statement}
+use Rattle.hour.proofs.join.Tie as tie
+
+returns : tie.Need-returns
+unfolding joined
+returns c = rw (eq-eqb _ _ (c .if1 .taken))
+
+refused-requires : tie.Need-refused-requires
+refused-requires c κs = search needs
+
+returns-2 : tie.Need-returns-2
+unfolding joined
+returns-2 c = rw (ne-eqb _ _ (c .before .if1 .left), c .refused .ensures)
+
+pub join-spec : {M : Type 1} → statement M
+join-spec = tie.close (tie.spec returns refused-requires returns-2)

@@ -1,0 +1,3 @@
+-- The hour, and the joint call.
+pub mod Hour
+pub mod Joint
