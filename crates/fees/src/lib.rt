@@ -75,7 +75,7 @@ pub fn quality_part(capacity: Dollars, performance: Dollars, factor: i64) -> Cha
 
 // The price that a quarter's target brings: charging changes the sign.
 fn signed_price(discharge: i64, charge: i64, target: i64) -> i64
-    requires { ⌜ isPrice charge ≡ true ⌝ }
+    requires { ⌜ (isPrice discharge ≡ true) × (isPrice charge ≡ true) ⌝ }
     ensures { λ r. ⌜ r ≡ signedPrice discharge charge target ⌝ }
 {
     if 0 < target {

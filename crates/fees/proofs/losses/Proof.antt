@@ -5,9 +5,9 @@ use mir.Syntax.{w64}
 use mir.Val.{toZ, ofZ}
 use mir.Facts.{toZ-ofZ}
 use borrow.Author.Needs.{needs}
-use Rattle.whole.proofs.Signed.{signed, inside, back, within-fits, times}
+use Rattle.whole.proofs.Signed.{signed, inside, back, within-fits}
 use Rattle.fees.specs.Loss.{net, above, percent, basicFee, excessFee, added}
-use Rattle.fees.proofs.Bounds.{to-within, sum-between}
+use Rattle.fees.proofs.Bounds.{to-within}
 use Rattle.fees.proofs.LossLaws.{LossFits, loss-fits, net-between, price-between, basic-product, excess-half, excess-product, basic-between, excess-between}
 use Rattle.fees.proofs.losses.Statement.{statement}
 use Rattle.fees.proofs.losses.Tie as tie
@@ -37,7 +37,9 @@ sub-at-least-zero-2 c =
     let s = c .before in
     let a = inside (fits s .into) in
     let b = net-between (fits s) in
-    rw (toZ-ofZ (mul-at-least-zero c), net-is c, toZ-ofZ (s .fits .charged)) (omega (signed, times 5 (net (s .args .charged) (s .args .discharged))))
+    let n = net-is c in
+    let m = mul-at-least-zero c in
+    omega signed
 
 at-least-zero-requires-2 : tie.Need-at-least-zero-requires-2
 at-least-zero-requires-2 c κs = search needs
@@ -103,7 +105,11 @@ excess-is c =
 add-t10 : tie.Need-add-t10
 add-t10 c =
     let f = fits (c .before .before .before .before .before) in
-    rw (basic-is (c .before), excess-is c) (within-fits w64 tt (to-within (sum-between _ _ (basic-between f) (excess-between f))))
+    let b = basic-between f in
+    let e = excess-between f in
+    let x = basic-is (c .before) in
+    let y = excess-is c in
+    omega signed
 
 returns : tie.Need-returns
 unfolding added

@@ -27,7 +27,9 @@ shared-slice-copy-out-target : tie.Need-shared-slice-copy-out-target
 shared-slice-copy-out-target c = let n = fits c .quarters in omega arith
 
 signed-price-requires : tie.Need-signed-price-requires
-signed-price-requires c κs = rw (toZ-ofZ (c .before .fits .charge)) (fits (c .before) .charging)
+signed-price-requires c κs =
+    let f = c .before .fits in
+    rw (toZ-ofZ (f .discharge), toZ-ofZ (f .charge)) (fits (c .before) .discharging, fits (c .before) .charging)
 
 mul-start : tie.Need-mul-start
 mul-start c = search needs

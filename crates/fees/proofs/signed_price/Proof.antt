@@ -19,7 +19,11 @@ returns c =
     rw (rw (toZ-ofZ (f .target)) at (c .if1 .taken), toZ-ofZ (f .discharge))
 
 sub-result : tie.Need-sub-result
-sub-result c = let b = inside (c .before .before .pre) in omega signed
+sub-result c =
+    let p = c .before .before .pre in
+    let d = inside (p .0) in
+    let b = inside (p .1) in
+    omega signed
 
 returns-2 : tie.Need-returns-2
 unfolding signedPrice
