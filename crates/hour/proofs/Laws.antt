@@ -1,24 +1,23 @@
 -- What a refusal that is 0 says of an hour's inputs, and what the refusal decides of the answer and of the lent run. Assumes nothing.
-use Prim.Native.Nat.{ℕ, _+_, _≤_}
-use mathlib.Core.Path.{_≡_, refl, ap, _∙_}
-use mathlib.Core.Bool.{Bool, true, false, _&&_}
+use Prim.Native.Nat.{ℕ}
+use mathlib.Core.Path.{_≡_, ap}
+use mathlib.Core.Bool.{true, _&&_}
 use mathlib.Core.List.{List}
-use native.Mathlib.Omega.{arith}
 use lib.Dec.{eqb}
 use lib.IntN.{ℤ, pos, _+ℤ_}
 use lib.ListN.{length}
 use mir.Syntax.{w64}
 use mir.Val.{SFits}
 use borrow.Author.Tests.{eqb-true, ne-eqb}
-use Rattle.whole.specs.Whole.{minus, Within, allInRange}
+use Rattle.whole.specs.Whole.{minus, allInRange}
 use Rattle.whole.specs.Runs.{listed}
 use Rattle.whole.proofs.Choice.{and-both, passed, both-passed, kept-new, kept-old}
-use Rattle.whole.proofs.Signed.{signed}
+use Rattle.whole.proofs.Signed.{within-fits}
 use Rattle.units.specs.declared.Dollars.{Dollars}
 use Rattle.bands.specs.Bands.{bandsRefusal}
 use Rattle.score.specs.Score.{isCapacity}
 use Rattle.fees.specs.Fees.{qualityAnswer, energyAnswer}
-use Rattle.fees.proofs.Laws.{quality-within, energy-within}
+use Rattle.fees.proofs.Laws.{amount-within}
 use Rattle.hour.specs.Hour.{lengthsFit, pricesFit, readingsFit, hourRefusal, scoreAt, scoresOf, scoresLeft, settledOf, refusedOf, hourOf}
 use Rattle.hour.specs.declared.Terms.{Terms}
 
@@ -63,12 +62,7 @@ fit powers frequencies places t ts fs e =
 pub amount-fits : (capacity performance : Dollars) (factor : ℤ) (powers targets : List ℤ) (discharge charge : ℤ)
     → SFits w64 (qualityAnswer capacity performance factor .dollars .0 +ℤ energyAnswer powers targets discharge charge .dollars .0)
 amount-fits capacity performance factor powers targets discharge charge =
-    let q = quality-within capacity performance factor in
-    let e = energy-within powers targets discharge charge in
-    both-fit (qualityAnswer capacity performance factor .dollars .0) (energyAnswer powers targets discharge charge .dollars .0) q e
-  where
-    both-fit : (x y : ℤ) → Within 480000000 x → Within 20000000 y → SFits w64 (x +ℤ y)
-    both-fit x y a b = omega signed
+    within-fits w64 tt (amount-within capacity performance factor powers targets discharge charge)
 
 -- ---- what the refusal decides
 

@@ -9,14 +9,14 @@ use lib.IntN.{ℤ, pos}
 use Rattle.units.specs.declared.Dollars.{Dollars}
 use Rattle.history.specs.Rules.{Call}
 use Rattle.whole.specs.Choice.{pick, unless}
-use Rattle.whole.proofs.Choice.{by-test}
+use Rattle.whole.proofs.Choice.{by-test, kept-old}
 use Rattle.units.specs.Refusals.{notReachable, notInMonth}
 use Rattle.history.specs.Board.{wellFormed, fresh, rulingOn, handed, refusalOf, nextOf, hoursOn}
 use Rattle.history.specs.History.{Entry}
 use Rattle.history.specs.Demand.{Ledger, Run, Demand3}
 use Rattle.history.proofs.Demand.{Stepped, Lawful}
 use Rattle.history.proofs.Demand.{demand3 as any-demand3}
-use Rattle.month.specs.Month.{isDays, monthRules, dollars, rulesOf, boardOf, freshMonth, openOf, answerOf, orReachable, hourOf, dayOf, totalOf, standingOf}
+use Rattle.month.specs.Month.{isDays, monthRules, dollars, rulesOf, boardOf, monthOf, freshMonth, openOf, answerOf, orReachable, hourOf, dayOf, totalOf, standingOf}
 use Rattle.month.specs.declared.Month.{Month}
 use Rattle.month.specs.declared.Booked.{Booked}
 use Rattle.month.specs.declared.Told.{Told}
@@ -120,6 +120,14 @@ month-laws =
       total = λ m r w e. reads m r _ w e;
       hours = counts;
     }
+
+-- a refused call hands the same ledger back
+pub refused-same : (m : Month) (c : Call ℤ) → (answerOf m c .refusal ≡ 0 → ⊥) → answerOf m c .month ≡ m
+unfolding answerOf refusalOf nextOf handed
+refused-same m c f =
+    by-test (wellFormed (rulesOf m) (boardOf m))
+    (λ (w : wellFormed (rulesOf m) (boardOf m) ≡ true). rw w (ap (monthOf (m .days)) (kept-old _ (boardOf m) (λ z. f (rw w z)))))
+    (λ (w : wellFormed (rulesOf m) (boardOf m) ≡ false). rw w)
 
 -- ---- the demand
 

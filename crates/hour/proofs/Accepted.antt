@@ -1,0 +1,227 @@
+-- An accepted hour is the paper's formula: no part of it is refused where the hour is not, so each part's answer is its plain formula. Stated over the
+-- contract of `hour` as the source states it. Assumes nothing.
+use Prim.Native.Nat.{ℕ, zero, suc, _+_, _/_, _%_, _≤_, _<_}
+use mathlib.Core.Path.{_≡_, refl, sym, ap, ap₂, _∙_, subst, subst₂}
+use mathlib.Core.Bool.{Bool, true, false, _&&_}
+use mathlib.Core.List.{List, []}
+use native.Mathlib.Nat.{zero-add}
+use native.Mathlib.Omega.{arith}
+use lib.Dec.{eqb}
+use lib.IntN.{ℤ, pos, _+ℤ_, +ℤ-idr}
+use lib.ListN.{length, getD, take, drop, replicate, length-take, length-drop}
+use lib.Seq.{getD-take, getD-drop}
+use borrow.Author.Tests.{eqb-true, eq-eqb}
+use Rattle.whole.specs.Choice.{pick}
+use Rattle.whole.specs.Runs.{listed}
+use Rattle.whole.specs.Whole.{minus, inRange, allInRange}
+use Rattle.whole.proofs.Choice.{and-both, by-test, clash}
+use Rattle.whole.proofs.Runs.{length-listed, getD-listed}
+use Rattle.whole.proofs.Sums.{all-inside, inside-all}
+use Rattle.units.specs.declared.Kilowatts.{Kilowatts}
+use Rattle.units.specs.declared.Millihertz.{Millihertz}
+use Rattle.units.specs.declared.Dollars.{Dollars}
+use Rattle.curve.specs.Curve.{upperAt, lowerAt}
+use Rattle.ramp.specs.Ramp.{rampAt, transferAt}
+use Rattle.ramp.proofs.Laws.{transfer-within, transfer-is, within-target, ramp-level}
+use Rattle.score.specs.Score.{percentOutput, scoreOf, secondScore, secondRefusal}
+use Rattle.score.specs.Rolling.{rolling, smallest, hourlyRate}
+use Rattle.score.specs.declared.Rated.{Rated}
+use Rattle.bands.specs.declared.Factored.{Factored}
+use Rattle.score.proofs.Laws.{fit-second, second-refusal, score-is, score-within}
+use Rattle.score.proofs.Rates.{are-scores, rate-granted, rate-within}
+use Rattle.bands.specs.Bands.{placeOf, factorAnswer}
+use Rattle.bands.proofs.Laws.{lookup-passes, factor-granted, factor-inside}
+use Rattle.fees.specs.Fees.{isPrice, fee, feeAnswer, qualityPart, qualityAnswer, energyFee, energyAnswer, granted}
+use Rattle.fees.proofs.Laws.{fee-granted, fees-fit, quality-granted, energy-granted, no-energy}
+use Rattle.fees.specs.declared.Charged.{Charged}
+use Rattle.hour.specs.Hour.{lengthsFit, pricesFit, readingsFit, quarters, hourRefusal, scoreAt, scoresOf, scoresLeft, answerOf, refusedOf, settledOf, hourOf, dRegTerms}
+use Rattle.hour.specs.Accepted.{Accepted, plan}
+use Rattle.hour.specs.declared.Terms.{Terms}
+use Rattle.hour.specs.declared.Settlement.{Settlement}
+use contract.Lifetimes.{Lfts}
+use borrow.Fn.Kinds.{Dens, endedOf}
+use denote.Triple.Clauses.{AtExit}
+use denote.Ref.{now}
+use Rattle.hour.proofs.hour.Reads as hour-reads
+use Rattle.hour.proofs.hour.Kinds as hour-kinds
+use Rattle.hour.proofs.dreg_hour.Reads as dreg-reads
+use Rattle.hour.proofs.dreg_hour.Kinds as dreg-kinds
+use Rattle.hour.proofs.Laws.{Fit, fit, Long, long, hour-granted, scores-granted}
+
+-- the answer's number is the hour's refusal
+pub refusal-is : (powers frequencies : List ℤ) (places : ℕ) (t : Terms) (thresholds factors : List ℤ)
+    → hourOf powers frequencies places t thresholds factors .refusal ≡ hourRefusal powers frequencies places t thresholds factors
+unfolding hourOf settledOf answerOf refusedOf
+refusal-is powers frequencies places t ts fs =
+    let k = hourRefusal powers frequencies places t ts fs in
+    by-test (eqb k 0) (λ (e : eqb k 0 ≡ true). rw e (sym (eqb-true k 0 e))) (λ (e : eqb k 0 ≡ false). rw e)
+
+module _ (powers frequencies : List ℤ) (places : ℕ) (t : Terms) (thresholds factors : List ℤ) (f : Fit powers frequencies places t thresholds factors) (five : length (t .targets) ≡ 5) where
+  lengths : Long (length powers) (length frequencies) places
+  lengths = long (length powers) (length frequencies) places (f .lengths)
+
+  readings : (allInRange (minus 200000) (pos 200000) powers ≡ true) × (allInRange (pos 55000) (pos 65000) frequencies ≡ true)
+  readings = and-both _ _ (f .readings)
+
+  -- ---- the scores
+
+  score-plain : (i : ℕ) → i < 3600
+      → scoreAt powers frequencies t i
+      ≡ scoreOf (percentOutput (getD powers i (pos 0)) (plan (t .targets) i) (t .capacity .0)) (upperAt (getD frequencies i (pos 0))) (lowerAt (getD frequencies i (pos 0)))
+  unfolding scoreAt
+  score-plain i h =
+      let l = lengths in
+      let p : Kilowatts = record { 0 = getD powers i (pos 0) } in
+      let q : Millihertz = record { 0 = getD frequencies i (pos 0) } in
+      let moved = transferAt (t .targets) i in
+      let in-powers : i < length powers = omega arith in
+      let in-frequencies : i < length frequencies = omega arith in
+      let number = second-refusal p moved (t .capacity) q ∙ fit-second p moved (t .capacity) q (record {
+        capacity = f .capacity;
+        transfer = within-target (moved .0) (transfer-within (t .targets) i);
+        power = all-inside (minus 200000) (pos 200000) powers (readings .0) i in-powers;
+        frequency = all-inside (pos 55000) (pos 65000) frequencies (readings .1) i in-frequencies;
+      }) in
+      score-is p moved (t .capacity) q number
+      ∙ ap (λ (z : ℤ). scoreOf (percentOutput (p .0) z (t .capacity .0)) (upperAt (q .0)) (lowerAt (q .0))) (transfer-is (t .targets) i (f .targets))
+
+  scores-long : length (scoresOf powers frequencies t) ≡ 3600
+  unfolding scoresOf
+  scores-long = length-listed (scoreAt powers frequencies t) 0 3600
+
+  score-place : (i : ℕ) → i < 3600 → getD (scoresOf powers frequencies t) i 0 ≡ scoreAt powers frequencies t i
+  unfolding scoresOf
+  score-place i h = getD-listed (scoreAt powers frequencies t) 0 3600 i 0 h ∙ ap (scoreAt powers frequencies t) (zero-add i)
+
+  -- ---- the rate and the factor
+
+  rate-plain : hourlyRate (scoresOf powers frequencies t) .rate ≡ smallest (rolling [] (scoresOf powers frequencies t))
+  unfolding scoreAt
+  rate-plain =
+      let xs = scoresOf powers frequencies t in
+      ap (λ (x : Rated). x .rate)
+      (rate-granted xs (record {
+        long = scores-long;
+        small = are-scores xs (λ i h.
+            let l : i < 3600 = omega (arith, scores-long) in
+            subst (λ (n : ℕ). n ≤ 100) (sym (score-place i l))
+            (score-within (record { 0 = getD powers i (pos 0) }) (transferAt (t .targets) i) (t .capacity) (record { 0 = getD frequencies i (pos 0) })));
+      }))
+
+  factor-plain : (rate : ℕ) → rate ≤ 100 → factorAnswer thresholds factors rate .factor ≡ getD factors (placeOf thresholds (pos rate)) (pos 0)
+  factor-plain rate h = ap (λ (x : Factored). x .factor) (factor-granted thresholds factors rate (lookup-passes thresholds factors rate (f .bands) h))
+
+  -- ---- the fees
+
+  prices : (isPrice (t .clearing) ≡ true) × (isPrice (t .performance) ≡ true) × (isPrice (t .discharge) ≡ true) × (isPrice (t .charge) ≡ true)
+  prices =
+      let a = and-both (isPrice (t .clearing) && isPrice (t .performance) && isPrice (t .discharge)) (isPrice (t .charge)) (f .prices) in
+      let b = and-both (isPrice (t .clearing) && isPrice (t .performance)) (isPrice (t .discharge)) (a .0) in
+      let c = and-both (isPrice (t .clearing)) (isPrice (t .performance)) (b .0) in
+      (c .0, c .1, b .1, a .1)
+
+  fee-plain : (price : ℤ) → isPrice price ≡ true → feeAnswer price (t .capacity) .dollars .0 ≡ fee price (t .capacity .0)
+  unfolding granted
+  fee-plain price e = ap (λ (x : Charged). x .dollars .0) (fee-granted (record { size = f .capacity; money = e }))
+
+  quality-plain : (factor : ℤ) → inRange (minus 240) (pos 10) factor ≡ true →
+      let a = feeAnswer (t .clearing) (t .capacity) .dollars in
+      let b = feeAnswer (t .performance) (t .capacity) .dollars in
+      qualityAnswer a b factor .dollars .0 ≡ qualityPart (a .0) (b .0) factor
+  unfolding granted
+  quality-plain factor e = ap (λ (x : Charged). x .dollars .0) (quality-granted (fees-fit (t .clearing) (t .performance) (t .capacity) factor e))
+
+  quarters-long : length (quarters t) ≡ 4
+  quarters-long = simp (length-take, length-drop) (omega arith)
+
+  quarters-fit : allInRange (minus 100000) (pos 100000) (quarters t) ≡ true
+  quarters-fit =
+      inside-all (minus 100000) (pos 100000) (quarters t) (λ i h.
+      let l : i < 4 = omega (arith, quarters-long) in
+      let k : 1 + i < length (t .targets) = omega arith in
+      rw (getD-take 4 (drop 1 (t .targets)) i (pos 0) l, getD-drop 1 (t .targets) i (pos 0)) (all-inside (minus 100000) (pos 100000) (t .targets) (f .targets) (1 + i) k))
+
+  energy-plain : energyAnswer powers (quarters t) (t .discharge) (t .charge) .dollars .0 ≡ energyFee powers (quarters t) (t .discharge) (t .charge)
+  unfolding granted
+  energy-plain =
+      ap (λ (x : Charged). x .dollars .0)
+      (energy-granted (record {
+        seconds = lengths .of-powers;
+        quarters = quarters-long;
+        discharging = prices .2;
+        charging = prices .3;
+        transfers = quarters-fit;
+        readings = readings .0;
+      }))
+
+  pub settled-accepted : Accepted powers frequencies t thresholds factors (scoresOf powers frequencies t) (settledOf powers t thresholds factors (scoresOf powers frequencies t))
+  unfolding settledOf answerOf
+  settled-accepted =
+      let xs = scoresOf powers frequencies t in
+      let rate = hourlyRate xs .rate in
+      record {
+        seconds = scores-long;
+        score = λ i h. score-place i h ∙ score-plain i h;
+        rate = rate-plain;
+        factor = factor-plain rate (rate-within xs);
+        capacity = fee-plain (t .clearing) (prices .0);
+        performance = fee-plain (t .performance) (prices .1);
+        quality = quality-plain (factorAnswer thresholds factors rate .factor) (factor-inside thresholds factors rate);
+        energy = energy-plain;
+        amount = refl;
+      }
+
+-- ---- over the contracts: any answer of the hour call that refuses nothing, with what it leaves in the lent run
+
+accepts : (powers frequencies : List ℤ) (t : Terms) (thresholds factors : List ℤ) (run scores : List ℕ) (r : Settlement) → length (t .targets) ≡ 5
+    → r ≡ hourOf powers frequencies (length run) t thresholds factors → scores ≡ scoresLeft powers frequencies t thresholds factors run → r .refusal ≡ 0
+    → Accepted powers frequencies t thresholds factors scores r
+accepts powers frequencies t ts fs run scores r five answer left none =
+    let zero : hourRefusal powers frequencies (length run) t ts fs ≡ 0 = sym (ap (λ (x : Settlement). x .refusal) answer ∙ refusal-is powers frequencies (length run) t ts fs) ∙ none in
+    subst₂ (Accepted powers frequencies t ts fs)
+    (sym (left ∙ scores-granted powers frequencies t ts fs run zero))
+    (hour-granted powers frequencies t ts fs run zero ∙ sym answer)
+    (settled-accepted powers frequencies (length run) t ts fs (fit powers frequencies (length run) t ts fs zero) five)
+
+-- an E-dReg hour
+pub hour-accepted : (κs : Lfts 5) (a : Dens κs hour-kinds.ps) (r : Settlement) (s : AtExit (endedOf 5 hour-kinds.ps hour-kinds.r) κs)
+    → hour-reads.Post κs a r s → r .refusal ≡ 0 → length (a .1 .1 .0 .targets) ≡ 5
+    → Accepted (now (a .0)) (now (a .1 .0)) (a .1 .1 .0) (now (a .1 .1 .1 .0)) (now (a .1 .1 .1 .1 .0)) (now (s .1 .1 .1 .1 .1 .0)) r
+hour-accepted κs a r s met none five =
+    accepts (now (a .0)) (now (a .1 .0)) (a .1 .1 .0) (now (a .1 .1 .1 .0)) (now (a .1 .1 .1 .1 .0)) (now (a .1 .1 .1 .1 .1 .0)) (now (s .1 .1 .1 .1 .1 .0)) r five (met .0) (met .1) none
+
+-- a dReg hour is one without transfer and energy
+pub record DReg (powers frequencies : List ℤ) (capacity : Kilowatts) (scores : List ℕ) (r : Settlement) : Type 0 where
+  pub score : (i : ℕ) → i < 3600
+      → getD scores i 0
+      ≡ scoreOf (percentOutput (getD powers i (pos 0)) (pos 0) (capacity .0)) (upperAt (getD frequencies i (pos 0))) (lowerAt (getD frequencies i (pos 0)))
+  pub energy : r .energy .0 ≡ pos 0
+  pub amount : r .amount .0 ≡ r .quality .0
+
+zeros-at : (n q : ℕ) → getD (replicate n (pos 0)) q (pos 0) ≡ pos 0
+zeros-at zero q = refl
+zeros-at (suc n) zero = refl
+zeros-at (suc n) (suc q) = zeros-at n q
+
+no-plan : (i : ℕ) → plan (replicate 5 (pos 0)) i ≡ pos 0
+no-plan i = ap₂ (λ (x y : ℤ). rampAt x y (i % 900 + 1)) (zeros-at 5 (i / 900)) (zeros-at 5 (i / 900 + 1)) ∙ ramp-level (pos 0) (i % 900 + 1)
+
+pub dreg-hour-accepted : (κs : Lfts 5) (a : Dens κs dreg-kinds.ps) (r : Settlement) (s : AtExit (endedOf 5 dreg-kinds.ps dreg-kinds.r) κs)
+    → dreg-reads.Post κs a r s → r .refusal ≡ 0 →
+    let t = dRegTerms (a .1 .1 .0) (a .1 .1 .1 .0) (a .1 .1 .1 .1 .0) in
+    let scores = now (s .1 .1 .1 .1 .1 .1 .1 .0) in
+    Accepted (now (a .0)) (now (a .1 .0)) t (now (a .1 .1 .1 .1 .1 .0)) (now (a .1 .1 .1 .1 .1 .1 .0)) scores r
+    × DReg (now (a .0)) (now (a .1 .0)) (a .1 .1 .0) scores r
+unfolding dRegTerms
+dreg-hour-accepted κs a r s met none =
+    let powers = now (a .0) in
+    let frequencies = now (a .1 .0) in
+    let t = dRegTerms (a .1 .1 .0) (a .1 .1 .1 .0) (a .1 .1 .1 .1 .0) in
+    let e = accepts powers frequencies t (now (a .1 .1 .1 .1 .1 .0)) (now (a .1 .1 .1 .1 .1 .1 .0)) (now (a .1 .1 .1 .1 .1 .1 .1 .0)) (now (s .1 .1 .1 .1 .1 .1 .1 .0)) r refl (met .0) (met .1) none in
+    let nothing : r .energy .0 ≡ pos 0 = e .energy ∙ no-energy powers (quarters t) (pos 0) (pos 0) (λ q l. zeros-at 4 q) in
+    (e,
+    record {
+      score = λ i h. e .score i h ∙ ap (λ (z : ℤ). scoreOf (percentOutput (getD powers i (pos 0)) z (a .1 .1 .0 .0)) (upperAt (getD frequencies i (pos 0))) (lowerAt (getD frequencies i (pos 0)))) (no-plan i);
+      energy = nothing;
+      amount = e .amount ∙ ap (λ (z : ℤ). r .quality .0 +ℤ z) nothing ∙ +ℤ-idr (r .quality .0);
+    })
