@@ -1,0 +1,2 @@
+-- Document 01's figures marked P.
+pub mod Figures
