@@ -1,0 +1,68 @@
+// The two ways to run the drawn calls.
+use crate::draw;
+use crate::draw::Drawn;
+use month::Head;
+use month::Month;
+use units::Dollars;
+
+fn call_in(head: Head, filled: &mut [bool], amounts: &mut [i64], call: Drawn) -> u8 {
+    let amount = Dollars(call.amount);
+    if call.kind < 3 {
+        return month::post_in(head, filled, amounts, call.day, call.hour, amount);
+    }
+    if call.kind < 5 {
+        return month::replace_in(head, filled, amounts, call.day, call.hour, amount);
+    }
+    month::withdraw_in(head, filled, amounts, call.day, call.hour)
+}
+
+fn calls_in(head: Head, filled: &mut [bool], amounts: &mut [i64], calls: u64) -> u64 {
+    let mut x = 1;
+    let mut sum = 0;
+    let mut i = 0;
+    while i < calls {
+        x = draw::next(x);
+        let k = call_in(head, filled, amounts, draw::drawn_at(x));
+        sum = draw::mixed(sum, k as u64);
+        i += 1;
+    }
+    draw::with_amounts(sum, amounts)
+}
+
+pub fn in_place(calls: u64) -> u64 {
+    let head = Head {
+        days: 30,
+        closed: false,
+        fee: Dollars(0),
+    };
+    let mut filled = [false; Month::PLACES];
+    let mut amounts = [0; Month::PLACES];
+    calls_in(head, &mut filled, &mut amounts, calls)
+}
+
+fn call(m: Month, call: Drawn) -> month::Booked {
+    let amount = Dollars(call.amount);
+    if call.kind < 3 {
+        return m.post(call.day, call.hour, amount);
+    }
+    if call.kind < 5 {
+        return m.replace(call.day, call.hour, amount);
+    }
+    m.withdraw(call.day, call.hour)
+}
+
+pub fn by_value(calls: u64) -> u64 {
+    let opened = Month::open(30);
+    let mut m = opened.month;
+    let mut x = 1;
+    let mut sum = 0;
+    let mut i = 0;
+    while i < calls {
+        x = draw::next(x);
+        let b = call(m, draw::drawn_at(x));
+        m = b.month;
+        sum = draw::mixed(sum, b.refusal as u64);
+        i += 1;
+    }
+    draw::with_amounts(sum, &m.amounts)
+}

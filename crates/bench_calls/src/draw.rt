@@ -1,0 +1,41 @@
+// Calls drawn by a linear congruential generator, some of them refused, and the check sum.
+pub const MODULUS: u64 = 4_294_967_296;
+
+// A call: a post (0 to 2), a replace (3, 4) or a withdraw (5 to 7), on a day of 0 to 31 and an hour of 0 to 24, with an amount that now
+// and then is past its limits.
+pub struct Drawn {
+    pub kind: u8,
+    pub day: u8,
+    pub hour: u8,
+    pub amount: i64,
+}
+
+pub fn next(x: u64) -> u64 {
+    (x % MODULUS * 1_664_525 + 1_013_904_223) % MODULUS
+}
+
+pub fn drawn_at(x: u64) -> Drawn {
+    Drawn {
+        kind: (x / 16_777_216 % 8) as u8,
+        day: (x / 134_217_728 % 32) as u8,
+        hour: (x / 65_536 % 256 * 25 / 256) as u8,
+        amount: (x % 65_536 * 32_768) as i64 - 1_073_741_824,
+    }
+}
+
+// The sum with one number more; the order of the numbers counts.
+pub fn mixed(sum: u64, number: u64) -> u64 {
+    (sum % MODULUS * 31 + number % MODULUS) % MODULUS
+}
+
+// The sum with every place's amount.
+pub fn with_amounts(sum: u64, amounts: &[i64]) -> u64 {
+    let mut s = sum;
+    let mut p = 0;
+    while p < amounts.len() {
+        let a = amounts[p];
+        s = mixed(mixed(s, (a < 0) as u64), whole::size(a));
+        p += 1;
+    }
+    s
+}
