@@ -1,5 +1,5 @@
 // The peer of crates/bench_calls: the same calls on a month ledger in plain Rust, as one would write it without proofs.
-// Standard input has the two counts; the two lines printed are those of the Rattle program.
+// Standard input has the three counts; the lines printed are those of the Rattle program.
 use std::io::Read;
 
 const PLACES: usize = 744;
@@ -121,7 +121,7 @@ impl Month {
 
 const MODULUS: u64 = 4_294_967_296;
 
-struct Drawn {
+struct Call {
     kind: u8,
     day: u8,
     hour: u8,
@@ -132,12 +132,21 @@ fn next(x: u64) -> u64 {
     (x % MODULUS * 1_664_525 + 1_013_904_223) % MODULUS
 }
 
-fn drawn(x: u64) -> Drawn {
-    Drawn {
+fn by_chance(x: u64) -> Call {
+    Call {
         kind: (x / 16_777_216 % 8) as u8,
         day: (x / 134_217_728 % 32) as u8,
         hour: (x / 65_536 % 256 * 25 / 256) as u8,
         amount: (x % 65_536 * 32_768) as i64 - 1_073_741_824,
+    }
+}
+
+fn in_order(i: u64) -> Call {
+    Call {
+        kind: (i / 744 % 3 * 3) as u8,
+        day: (i / 24 % 31 + 1) as u8,
+        hour: (i % 24) as u8,
+        amount: (i % 1_000_000) as i64,
     }
 }
 
@@ -149,12 +158,12 @@ fn with_amounts(sum: u64, amounts: &[i64]) -> u64 {
     amounts.iter().fold(sum, |s, &a| mixed(mixed(s, (a < 0) as u64), a.unsigned_abs()))
 }
 
-fn in_place(calls: u64) -> u64 {
+fn in_place(ordered: bool, calls: u64) -> u64 {
     let mut m = Month::open(30);
     let (mut x, mut sum) = (1, 0);
-    for _ in 0..calls {
+    for i in 0..calls {
         x = next(x);
-        let call = drawn(x);
+        let call = if ordered { in_order(i) } else { by_chance(x) };
         let k = match call.kind {
             0..=2 => m.post_in(call.day, call.hour, call.amount),
             3..=4 => m.replace_in(call.day, call.hour, call.amount),
@@ -170,7 +179,7 @@ fn by_value(calls: u64) -> u64 {
     let (mut x, mut sum) = (1, 0);
     for _ in 0..calls {
         x = next(x);
-        let call = drawn(x);
+        let call = by_chance(x);
         let (k, next) = match call.kind {
             0..=2 => m.post(call.day, call.hour, call.amount),
             3..=4 => m.replace(call.day, call.hour, call.amount),
@@ -186,7 +195,9 @@ fn main() {
     let mut input = String::new();
     std::io::stdin().read_to_string(&mut input).expect("standard input");
     let mut counts = input.split_whitespace().map(|n| n.parse().expect("a count"));
-    let (first, second) = (counts.next().unwrap_or(0), counts.next().unwrap_or(0));
-    println!("in place {first} {}", in_place(first));
-    println!("by value {second} {}", by_value(second));
+    let mut count = || counts.next().unwrap_or(0);
+    let (ordered, placed, valued) = (count(), count(), count());
+    println!("in order, in place {ordered} {}", in_place(true, ordered));
+    println!("by chance, in place {placed} {}", in_place(false, placed));
+    println!("by chance, by value {valued} {}", by_value(valued));
 }

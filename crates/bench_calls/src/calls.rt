@@ -1,11 +1,11 @@
-// The two ways to run the drawn calls.
+// The ways to run the calls: on runs in place, and on a month by value.
 use crate::draw;
-use crate::draw::Drawn;
+use crate::draw::Call;
 use month::Head;
 use month::Month;
 use units::Dollars;
 
-fn call_in(head: Head, filled: &mut [bool], amounts: &mut [i64], call: Drawn) -> u8 {
+fn call_in(head: Head, filled: &mut [bool], amounts: &mut [i64], call: Call) -> u8 {
     let amount = Dollars(call.amount);
     if call.kind < 3 {
         return month::post_in(head, filled, amounts, call.day, call.hour, amount);
@@ -16,20 +16,33 @@ fn call_in(head: Head, filled: &mut [bool], amounts: &mut [i64], call: Drawn) ->
     month::withdraw_in(head, filled, amounts, call.day, call.hour)
 }
 
-fn calls_in(head: Head, filled: &mut [bool], amounts: &mut [i64], calls: u64) -> u64 {
+fn chosen(ordered: bool, x: u64, i: u64) -> Call {
+    if ordered {
+        return draw::in_order(i);
+    }
+    draw::by_chance(x)
+}
+
+fn calls_in(
+    head: Head,
+    filled: &mut [bool],
+    amounts: &mut [i64],
+    ordered: bool,
+    calls: u64,
+) -> u64 {
     let mut x = 1;
     let mut sum = 0;
     let mut i = 0;
     while i < calls {
         x = draw::next(x);
-        let k = call_in(head, filled, amounts, draw::drawn_at(x));
+        let k = call_in(head, filled, amounts, chosen(ordered, x, i));
         sum = draw::mixed(sum, k as u64);
         i += 1;
     }
     draw::with_amounts(sum, amounts)
 }
 
-pub fn in_place(calls: u64) -> u64 {
+pub fn in_place(ordered: bool, calls: u64) -> u64 {
     let head = Head {
         days: 30,
         closed: false,
@@ -37,10 +50,10 @@ pub fn in_place(calls: u64) -> u64 {
     };
     let mut filled = [false; Month::PLACES];
     let mut amounts = [0; Month::PLACES];
-    calls_in(head, &mut filled, &mut amounts, calls)
+    calls_in(head, &mut filled, &mut amounts, ordered, calls)
 }
 
-fn call(m: Month, call: Drawn) -> month::Booked {
+fn called(m: Month, call: Call) -> month::Booked {
     let amount = Dollars(call.amount);
     if call.kind < 3 {
         return m.post(call.day, call.hour, amount);
@@ -59,7 +72,7 @@ pub fn by_value(calls: u64) -> u64 {
     let mut i = 0;
     while i < calls {
         x = draw::next(x);
-        let b = call(m, draw::drawn_at(x));
+        let b = called(m, draw::by_chance(x));
         m = b.month;
         sum = draw::mixed(sum, b.refusal as u64);
         i += 1;

@@ -1,9 +1,9 @@
-// Calls drawn by a linear congruential generator, some of them refused, and the check sum.
+// The calls, by chance (a linear congruential generator) or in order, some of them refused; and the check sum.
 pub const MODULUS: u64 = 4_294_967_296;
 
 // A call: a post (0 to 2), a replace (3, 4) or a withdraw (5 to 7), on a day of 0 to 31 and an hour of 0 to 24, with an amount that now
 // and then is past its limits.
-pub struct Drawn {
+pub struct Call {
     pub kind: u8,
     pub day: u8,
     pub hour: u8,
@@ -14,12 +14,22 @@ pub fn next(x: u64) -> u64 {
     (x % MODULUS * 1_664_525 + 1_013_904_223) % MODULUS
 }
 
-pub fn drawn_at(x: u64) -> Drawn {
-    Drawn {
+pub fn by_chance(x: u64) -> Call {
+    Call {
         kind: (x / 16_777_216 % 8) as u8,
         day: (x / 134_217_728 % 32) as u8,
         hour: (x / 65_536 % 256 * 25 / 256) as u8,
         amount: (x % 65_536 * 32_768) as i64 - 1_073_741_824,
+    }
+}
+
+// The calls of a month in order: every hour posted, then replaced, then withdrawn.
+pub fn in_order(i: u64) -> Call {
+    Call {
+        kind: (i / 744 % 3 * 3) as u8,
+        day: (i / 24 % 31 + 1) as u8,
+        hour: (i % 24) as u8,
+        amount: (i % 1_000_000) as i64,
     }
 }
 

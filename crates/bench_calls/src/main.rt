@@ -1,5 +1,5 @@
-// The first benchmark: ledger calls in place, and the same calls on a month by value. Standard input says how many of each; for each way
-// the count and a check sum are printed, and equal counts print equal sums. bench/calls.rs is the peer that does the same.
+// The first benchmark: ledger calls in place, in order and by chance, and the calls by chance on a month by value. Standard input says how
+// many of each; for each way the count and a check sum are printed. By chance, equal counts print equal sums. bench/calls.rs is the peer.
 mod calls;
 mod draw;
 mod text;
@@ -9,8 +9,18 @@ fn main() {
     let got = libc::read(0, &mut buffer);
     let n = io::count(got, &buffer);
     let input = &buffer[..n];
-    let first = text::count(input, false);
-    let second = text::count(input, true);
-    text::line(b"in place", first, calls::in_place(first));
-    text::line(b"by value", second, calls::by_value(second));
+    let ordered = text::count(input, 0);
+    let placed = text::count(input, 1);
+    let valued = text::count(input, 2);
+    text::line(
+        b"in order, in place",
+        ordered,
+        calls::in_place(true, ordered),
+    );
+    text::line(
+        b"by chance, in place",
+        placed,
+        calls::in_place(false, placed),
+    );
+    text::line(b"by chance, by value", valued, calls::by_value(valued));
 }

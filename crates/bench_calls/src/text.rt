@@ -11,15 +11,22 @@ fn with_digit(n: u64, b: u8) -> u64 {
     n % 1_000_000_000 * 10 + (b - b'0') as u64
 }
 
-// The number before the first space of the input, or the one after it.
-pub fn count(input: &[u8], second: bool) -> u64 {
+fn with_space(spaces: usize, b: u8) -> usize {
+    if b == b' ' {
+        return spaces % 1_000 + 1;
+    }
+    spaces
+}
+
+// The number that stands after that many spaces.
+pub fn count(input: &[u8], after: usize) -> u64 {
     let mut n: u64 = 0;
-    let mut after = false;
+    let mut spaces: usize = 0;
     let mut i = 0;
     while i < input.len() {
         let b = input[i];
-        after = after | (b == b' ');
-        if after == second {
+        spaces = with_space(spaces, b);
+        if spaces == after {
             n = with_digit(n, b);
         }
         i += 1;

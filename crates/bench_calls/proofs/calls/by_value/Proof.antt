@@ -19,11 +19,11 @@ loop-holds c = search needs
 next-requires : tie.Need-next-requires Inv-loop μ-loop
 next-requires c κs = search needs
 
-drawn-at-requires : tie.Need-drawn-at-requires Inv-loop μ-loop
-drawn-at-requires c κs = search needs
+by-chance-requires : tie.Need-by-chance-requires Inv-loop μ-loop
+by-chance-requires c κs = search needs
 
-call-requires : tie.Need-call-requires Inv-loop μ-loop
-call-requires c κs = search needs
+called-requires : tie.Need-called-requires Inv-loop μ-loop
+called-requires c κs = search needs
 
 cast-mixed : tie.Need-cast-mixed Inv-loop μ-loop
 cast-mixed c = search needs
@@ -55,8 +55,8 @@ by-value-spec =
     open-requires
     loop-holds
     next-requires
-    drawn-at-requires
-    call-requires
+    by-chance-requires
+    called-requires
     cast-mixed
     mixed-requires
     add-i

@@ -7,10 +7,10 @@ use Rattle.bench_calls.proofs.calls.calls_in.Statement.{statement}
 use Rattle.bench_calls.proofs.calls.calls_in.Tie as tie
 
 abbrev Inv-loop : tie.InvT-loop
-Inv-loop head filled₀ amounts₀ calls x₀ sum₀ i₀ filled amounts x sum i = (i ≤ calls) × (length filled ≡ length filled₀) × (length amounts ≡ length amounts₀)
+Inv-loop head filled₀ amounts₀ ordered calls x₀ sum₀ i₀ filled amounts x sum i = (i ≤ calls) × (length filled ≡ length filled₀) × (length amounts ≡ length amounts₀)
 
 abbrev μ-loop : tie.MeasureT-loop
-μ-loop head filled₀ amounts₀ calls x₀ sum₀ i₀ filled amounts x sum i = calls - i
+μ-loop head filled₀ amounts₀ ordered calls x₀ sum₀ i₀ filled amounts x sum i = calls - i
 
 loop-holds : tie.Need-loop-holds Inv-loop μ-loop
 loop-holds c = search needs
@@ -18,8 +18,8 @@ loop-holds c = search needs
 next-requires : tie.Need-next-requires Inv-loop μ-loop
 next-requires c κs = search needs
 
-drawn-at-requires : tie.Need-drawn-at-requires Inv-loop μ-loop
-drawn-at-requires c κs = search needs
+chosen-requires : tie.Need-chosen-requires Inv-loop μ-loop
+chosen-requires c κs = search needs
 
 call-in-requires : tie.Need-call-in-requires Inv-loop μ-loop
 call-in-requires c κs = search needs
@@ -59,7 +59,7 @@ calls-in-spec =
     μ-loop
     loop-holds
     next-requires
-    drawn-at-requires
+    chosen-requires
     call-in-requires
     cast-mixed
     mixed-requires

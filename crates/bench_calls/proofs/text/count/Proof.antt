@@ -6,16 +6,19 @@ use Rattle.bench_calls.proofs.text.count.Statement.{statement}
 use Rattle.bench_calls.proofs.text.count.Tie as tie
 
 abbrev Inv-loop : tie.InvT-loop
-Inv-loop input second n₀ after₀ i₀ n after i = i ≤ length input
+Inv-loop input after n₀ spaces₀ i₀ n spaces i = i ≤ length input
 
 abbrev μ-loop : tie.MeasureT-loop
-μ-loop input second n₀ after₀ i₀ n after i = length input - i
+μ-loop input after n₀ spaces₀ i₀ n spaces i = length input - i
 
 loop-holds : tie.Need-loop-holds Inv-loop μ-loop
 loop-holds c = search needs
 
 shared-slice-read-b : tie.Need-shared-slice-read-b Inv-loop μ-loop
 shared-slice-read-b c = search needs
+
+with-space-requires : tie.Need-with-space-requires Inv-loop μ-loop
+with-space-requires c κs = search needs
 
 with-digit-requires : tie.Need-with-digit-requires Inv-loop μ-loop
 with-digit-requires c κs = search needs
@@ -40,6 +43,7 @@ count-spec =
     μ-loop
     loop-holds
     shared-slice-read-b
+    with-space-requires
     with-digit-requires
     add-i
     loop-less

@@ -1,8 +1,8 @@
--- `drawn_at` is safe: an amount is at most 2^30 on either side. Assumes nothing.
+-- `by_chance` is safe: an amount is at most 2^30 on either side. Assumes nothing.
 use Rattle.whole.proofs.Signed.{signed, bits-pos}
 use borrow.Author.Needs.{needs}
-use Rattle.bench_calls.proofs.draw.drawn_at.Statement.{statement}
-use Rattle.bench_calls.proofs.draw.drawn_at.Tie as tie
+use Rattle.bench_calls.proofs.draw.by_chance.Statement.{statement}
+use Rattle.bench_calls.proofs.draw.by_chance.Tie as tie
 
 cast-t4 : tie.Need-cast-t4
 cast-t4 c = search needs
@@ -28,6 +28,6 @@ sub-t16 c = omega (signed, bits-pos (cast-t15 c))
 returns : tie.Need-returns
 returns c = search needs
 
-pub drawn-at-spec : {M : Type 1} → statement M
-drawn-at-spec =
+pub by-chance-spec : {M : Type 1} → statement M
+by-chance-spec =
     tie.close (tie.spec cast-t4 cast-t7 mul-t10 cast-t12 mul-t14 cast-t15 sub-t16 returns)
