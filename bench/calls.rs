@@ -1,5 +1,5 @@
 // The peer of crates/bench_calls: the same calls on a month ledger in plain Rust, as one would write it without proofs.
-// Standard input has the three counts; the lines printed are those of the Rattle program.
+// Standard input and the lines printed are those of the Rattle program.
 use std::io::Read;
 
 const PLACES: usize = 744;
@@ -25,8 +25,8 @@ fn is_amount(amount: i64) -> bool {
 }
 
 impl Month {
-    fn open(days: u8) -> Month {
-        Month { days, closed: false, fee: 0, filled: [false; PLACES], amounts: [0; PLACES] }
+    fn new(days: u8, closed: bool) -> Month {
+        Month { days, closed, fee: 0, filled: [false; PLACES], amounts: [0; PLACES] }
     }
 
     // The hour's place, or the refusal of a closed month or of an hour outside it.
@@ -158,8 +158,7 @@ fn with_amounts(sum: u64, amounts: &[i64]) -> u64 {
     amounts.iter().fold(sum, |s, &a| mixed(mixed(s, (a < 0) as u64), a.unsigned_abs()))
 }
 
-fn in_place(ordered: bool, calls: u64) -> u64 {
-    let mut m = Month::open(30);
+fn in_place(mut m: Month, ordered: bool, calls: u64) -> u64 {
     let (mut x, mut sum) = (1, 0);
     for i in 0..calls {
         x = next(x);
@@ -174,8 +173,7 @@ fn in_place(ordered: bool, calls: u64) -> u64 {
     with_amounts(sum, &m.amounts)
 }
 
-fn by_value(calls: u64) -> u64 {
-    let mut m = Month::open(30);
+fn by_value(mut m: Month, calls: u64) -> u64 {
     let (mut x, mut sum) = (1, 0);
     for _ in 0..calls {
         x = next(x);
@@ -194,10 +192,11 @@ fn by_value(calls: u64) -> u64 {
 fn main() {
     let mut input = String::new();
     std::io::stdin().read_to_string(&mut input).expect("standard input");
-    let mut counts = input.split_whitespace().map(|n| n.parse().expect("a count"));
-    let mut count = || counts.next().unwrap_or(0);
-    let (ordered, placed, valued) = (count(), count(), count());
-    println!("in order, in place {ordered} {}", in_place(true, ordered));
-    println!("by chance, in place {placed} {}", in_place(false, placed));
-    println!("by chance, by value {valued} {}", by_value(valued));
+    let mut numbers = input.split_whitespace().map(|n| n.parse::<u64>().expect("a number"));
+    let mut number = || numbers.next().unwrap_or(0);
+    let (days, closed) = ((28 + number() % 4) as u8, number() == 1);
+    let (ordered, placed, valued) = (number(), number(), number());
+    println!("in order, in place {ordered} {}", in_place(Month::new(days, closed), true, ordered));
+    println!("by chance, in place {placed} {}", in_place(Month::new(days, closed), false, placed));
+    println!("by chance, by value {valued} {}", by_value(Month::new(days, closed), valued));
 }

@@ -42,10 +42,10 @@ fn calls_in(
     draw::with_amounts(sum, amounts)
 }
 
-pub fn in_place(ordered: bool, calls: u64) -> u64 {
+pub fn in_place(days: u8, closed: bool, ordered: bool, calls: u64) -> u64 {
     let head = Head {
-        days: 30,
-        closed: false,
+        days: days,
+        closed: closed,
         fee: Dollars(0),
     };
     let mut filled = [false; Month::PLACES];
@@ -64,9 +64,18 @@ fn called(m: Month, call: Call) -> month::Booked {
     m.withdraw(call.day, call.hour)
 }
 
-pub fn by_value(calls: u64) -> u64 {
-    let opened = Month::open(30);
-    let mut m = opened.month;
+fn opened(days: u8, closed: bool) -> Month {
+    let b = Month::open(days);
+    let m = b.month;
+    if closed {
+        let shut = m.close();
+        return shut.month;
+    }
+    m
+}
+
+pub fn by_value(days: u8, closed: bool, calls: u64) -> u64 {
+    let mut m = opened(days, closed);
     let mut x = 1;
     let mut sum = 0;
     let mut i = 0;

@@ -1,4 +1,4 @@
-// The counts that are read, and the lines that are printed.
+// The numbers that are read, and the lines that are printed.
 
 // The number with one digit more, of which the last ten stay; any other byte leaves it as it is.
 fn with_digit(n: u64, b: u8) -> u64 {
@@ -32,6 +32,11 @@ pub fn count(input: &[u8], after: usize) -> u64 {
         i += 1;
     }
     n
+}
+
+// A month's days: 28 to 31 stay as they are.
+pub fn days(n: u64) -> u8 {
+    (28 + n % 4) as u8
 }
 
 pub fn line(way: &[u8], calls: u64, sum: u64) {

@@ -5,13 +5,13 @@ use Rattle.bench_calls.proofs.calls.by_value.Statement.{statement}
 use Rattle.bench_calls.proofs.calls.by_value.Tie as tie
 
 abbrev Inv-loop : tie.InvT-loop
-Inv-loop calls m₀ x₀ sum₀ i₀ m x sum i = i ≤ calls
+Inv-loop days closed calls m₀ x₀ sum₀ i₀ m x sum i = i ≤ calls
 
 abbrev μ-loop : tie.MeasureT-loop
-μ-loop calls m₀ x₀ sum₀ i₀ m x sum i = calls - i
+μ-loop days closed calls m₀ x₀ sum₀ i₀ m x sum i = calls - i
 
-open-requires : tie.Need-open-requires Inv-loop μ-loop
-open-requires c κs = search needs
+opened-requires : tie.Need-opened-requires Inv-loop μ-loop
+opened-requires c κs = search needs
 
 loop-holds : tie.Need-loop-holds Inv-loop μ-loop
 loop-holds c = search needs
@@ -52,7 +52,7 @@ by-value-spec =
     (tie.spec
     Inv-loop
     μ-loop
-    open-requires
+    opened-requires
     loop-holds
     next-requires
     by-chance-requires
