@@ -143,10 +143,10 @@ fn by_chance(x: u64) -> Call {
 
 fn in_order(i: u64) -> Call {
     Call {
-        kind: (i / 744 % 3 * 3) as u8,
-        day: (i / 24 % 31 + 1) as u8,
-        hour: (i % 24) as u8,
-        amount: (i % 1_000_000) as i64,
+        kind: (i / 512 % 8) as u8,
+        day: (i / 16 % 32) as u8,
+        hour: (i % 16) as u8,
+        amount: (i % 65_536) as i64,
     }
 }
 
