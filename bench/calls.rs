@@ -143,7 +143,7 @@ fn by_chance(x: u64) -> Call {
 
 fn in_order(i: u64) -> Call {
     Call {
-        kind: (i / 512 % 8) as u8,
+        kind: (i / 512 % 4 * 2) as u8,
         day: (i / 16 % 32) as u8,
         hour: (i % 16) as u8,
         amount: (i % 65_536) as i64,

@@ -23,11 +23,11 @@ pub fn by_chance(x: u64) -> Call {
     }
 }
 
-// The calls in order: of each day 16 hours are posted, three times over, then replaced, then withdrawn. Shifts and masks find a call, so
-// that a turn of the loop is little else than the call.
+// The calls in order: 16 hours of each day are posted, posted again, replaced and withdrawn. Shifts and masks find a call, so that a turn of
+// the loop is little else than the call.
 pub fn in_order(i: u64) -> Call {
     Call {
-        kind: (i / 512 % 8) as u8,
+        kind: (i / 512 % 4 * 2) as u8,
         day: (i / 16 % 32) as u8,
         hour: (i % 16) as u8,
         amount: (i % 65_536) as i64,
