@@ -13,6 +13,73 @@ use Rattle.figures.specs.Figures.{figures, Agree}
 
 figures-agree : Agree figures
 unfolding figures foldTo inRange allInRange apart withSign halfUp roundUp nearest away upperAt lowerAt rampAt scoreOf rolling fall bandsFit bandsRefusal placeOf factorRefusal answer factorAnswer qualityPart signedPrice quarterPart energyFee atLeastZero percent basicFee excessFee
-figures-agree =
-    (refl, (refl, (refl, (refl, (refl, (refl, (refl, (refl, (refl, (refl, (refl, (refl, (refl, (refl, (refl, (refl, (refl, (refl, (refl, (refl, (refl, (refl, (refl,
-    (refl, (refl, (refl, (refl, (refl, (refl, (refl, (refl, (refl, (refl, (refl, tt))))))))))))))))))))))))))))))))))
+figures-agree = (
+  refl,
+  (
+    refl,
+    (
+      refl,
+      (
+        refl,
+        (
+          refl,
+          (
+            refl,
+            (
+              refl,
+              (
+                refl,
+                (
+                  refl,
+                  (
+                    refl,
+                    (
+                      refl,
+                      (
+                        refl,
+                        (
+                          refl,
+                          (
+                            refl,
+                            (
+                              refl,
+                              (
+                                refl,
+                                (
+                                  refl,
+                                  (
+                                    refl,
+                                    (
+                                      refl,
+                                      (
+                                        refl,
+                                        (
+                                          refl,
+                                          (
+                                            refl,
+                                            (
+                                              refl,
+                                              (refl, (refl, (refl, (refl, (refl, (refl, (refl, (refl, (refl, (refl, (refl, tt))))))))))),
+                                            ),
+                                          ),
+                                        ),
+                                      ),
+                                    ),
+                                  ),
+                                ),
+                              ),
+                            ),
+                          ),
+                        ),
+                      ),
+                    ),
+                  ),
+                ),
+              ),
+            ),
+          ),
+        ),
+      ),
+    ),
+  ),
+)

@@ -218,10 +218,11 @@ dreg-hour-accepted κs a r s met none =
     let frequencies = now (a .1 .0) in
     let t = dRegTerms (a .1 .1 .0) (a .1 .1 .1 .0) (a .1 .1 .1 .1 .0) in
     let e = accepts powers frequencies t (now (a .1 .1 .1 .1 .1 .0)) (now (a .1 .1 .1 .1 .1 .1 .0)) (now (a .1 .1 .1 .1 .1 .1 .1 .0)) (now (s .1 .1 .1 .1 .1 .1 .1 .0)) r refl (met .0) (met .1) none in
-    let nothing : r .energy .0 ≡ pos 0 = e .energy ∙ no-energy powers (quarters t) (pos 0) (pos 0) (λ q l. zeros-at 4 q) in
-    (e,
-    record {
-      score = λ i h. e .score i h ∙ ap (λ (z : ℤ). scoreOf (percentOutput (getD powers i (pos 0)) z (a .1 .1 .0 .0)) (upperAt (getD frequencies i (pos 0))) (lowerAt (getD frequencies i (pos 0)))) (no-plan i);
-      energy = nothing;
-      amount = e .amount ∙ ap (λ (z : ℤ). r .quality .0 +ℤ z) nothing ∙ +ℤ-idr (r .quality .0);
-    })
+    let nothing : r .energy .0 ≡ pos 0 = e .energy ∙ no-energy powers (quarters t) (pos 0) (pos 0) (λ q l. zeros-at 4 q) in (
+      e,
+      record {
+        score = λ i h. e .score i h ∙ ap (λ (z : ℤ). scoreOf (percentOutput (getD powers i (pos 0)) z (a .1 .1 .0 .0)) (upperAt (getD frequencies i (pos 0))) (lowerAt (getD frequencies i (pos 0)))) (no-plan i);
+        energy = nothing;
+        amount = e .amount ∙ ap (λ (z : ℤ). r .quality .0 +ℤ z) nothing ∙ +ℤ-idr (r .quality .0);
+      },
+    )
