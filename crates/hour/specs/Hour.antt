@@ -97,8 +97,8 @@ settledOf powers t thresholds factors scores =
     let factor = factorAnswer thresholds factors rate .factor in
     let capacity = feeAnswer (t .clearing) (t .capacity) .dollars in
     let performance = feeAnswer (t .performance) (t .capacity) .dollars in
-    let quality = qualityAnswer capacity performance factor .dollars in
     let energy = energyAnswer powers (quarters t) (t .discharge) (t .charge) .dollars in
+    let quality = qualityAnswer capacity performance factor .dollars in
     answerOf rate factor capacity performance quality energy (record { 0 = quality .0 +ℤ energy .0 })
 
 -- the hour call's answer; of the lent run only its number of places matters

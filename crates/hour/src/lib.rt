@@ -233,10 +233,10 @@ fn settled(
     let factor = factor_of(thresholds, factors, rate);
     let capacity = fee_of(terms.clearing, terms.capacity);
     let performance = fee_of(terms.performance, terms.capacity);
-    let quality = quality_of(capacity, performance, factor);
     let discharge = terms.discharge;
     let charge = terms.charge;
     let energy = energy_of(powers, &terms.targets, discharge, charge);
+    let quality = quality_of(capacity, performance, factor);
     answer(
         rate,
         factor,

@@ -39,8 +39,7 @@ energy-of-requires c κs = search needs
 
 plus-requires : tie.Need-plus-requires
 plus-requires c κs =
-    let q = c .before .before .before .before .before .before in
-    rw (q .quality-of .ensures, c .energy-of .ensures) (amount-fits _ _ _ _ _ _ _)
+    rw (c .quality-of .ensures, c .before .energy-of .ensures) (amount-fits _ _ _ _ _ _ _)
 
 answer-requires : tie.Need-answer-requires
 answer-requires c κs = search needs
@@ -61,14 +60,14 @@ performance-is c =
     let f : SFits w64 (t .performance) = search needs in
     rw (toZ-ofZ f) at (c .fee-of2 .ensures)
 
-discharge-fits : (c : tie.After-struct-told3) → SFits w64 (c .before .before .before .before .before .before .before .before .before .before .before .args .t2 .discharge)
+discharge-fits : (c : tie.After-struct-told3) → SFits w64 (c .before .before .before .before .before .before .before .before .before .before .args .t2 .discharge)
 discharge-fits c = search needs
 
-charge-fits : (c : tie.After-struct-told4) → SFits w64 (c .before .before .before .before .before .before .before .before .before .before .before .before .args .t2 .charge)
+charge-fits : (c : tie.After-struct-told4) → SFits w64 (c .before .before .before .before .before .before .before .before .before .before .before .args .t2 .charge)
 charge-fits c = search needs
 
 energy-is : (c : tie.After-energy-of) →
-    let a = c .before .before .before .before .before .before .before .before .before .before .before .before .before .before .before .before .args in
+    let a = c .before .before .before .before .before .before .before .before .before .before .before .before .before .before .before .args in
     c .energy-of .result ≡ energyAnswer (a .powers .now) (take 4 (drop 1 (a .t2 .targets))) (a .t2 .discharge) (a .t2 .charge) .dollars
 energy-is c = let t = c .before .before .before .before in rw (toZ-ofZ (discharge-fits (t .before)), toZ-ofZ (charge-fits t)) at (c .energy-of .ensures)
 
@@ -76,9 +75,9 @@ returns : tie.Need-returns
 unfolding settledOf
 returns c =
     let p = c .before in
-    let e = p .before in
-    let q = e .before .before .before .before .before .before in
-    let g = q .before in
+    let q = p .before in
+    let e = q .before in
+    let g = e .before .before .before .before .before .before in
     let f = g .before .before .before in
     let k = f .before .before .before in
     let r = k .before in
@@ -102,8 +101,8 @@ settled-spec =
     factor-of-requires
     fee-of-requires
     fee-of-requires-2
-    quality-of-requires
     energy-of-requires
+    quality-of-requires
     plus-requires
     answer-requires
     returns)
