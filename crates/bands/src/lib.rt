@@ -29,16 +29,6 @@ fn fall(thresholds: &[i64]) -> bool
     true
 }
 
-// The number at a place, 0 past the end.
-fn at(run: &[i64], i: usize) -> i64
-    ensures { λ r. ⌜ r ≡ getD (now (run .entry)) i (pos 0) ⌝ }
-{
-    if i < run.len() {
-        return run[i];
-    }
-    0
-}
-
 // The last threshold, 0 if there is none.
 fn last(thresholds: &[i64]) -> i64
     ensures { λ r. ⌜ r ≡ last (now (thresholds .entry)) ⌝ }
@@ -47,7 +37,7 @@ fn last(thresholds: &[i64]) -> i64
     if n == 0 {
         return 0;
     }
-    at(thresholds, n - 1)
+    whole::at(thresholds, n - 1)
 }
 
 fn fit(thresholds: &[i64], factors: &[i64]) -> bool
@@ -105,7 +95,7 @@ pub fn factor(thresholds: &[i64], factors: &[i64], rate: u8) -> Factored
 {
     let reading = whole::unless(rate <= 100, units::refusals::BAD_READING, 0);
     let k = whole::or_else(check(thresholds, factors), reading);
-    let found = at(factors, place(thresholds, rate as i64));
+    let found = whole::at(factors, place(thresholds, rate as i64));
     answer(k, found)
 }
 

@@ -1,8 +1,7 @@
 // The transfer ramp (document 000, formula 1): what an E-dReg battery transfers in each second of a quarter.
 ghost use mathlib.Core.Path.{_≡_};
 ghost use Prim.Native.Nat.{_≤_};
-ghost use lib.IntN.{pos};
-ghost use lib.ListN.{length, getD};
+ghost use lib.ListN.{length};
 ghost use Rattle.whole.specs.Whole.{Within};
 ghost use Rattle.ramp.specs.Ramp.{areTargets, rampAt, quarter, rampRefusal, rampLeft, plannedAt, transferAt};
 use units::Kilowatts;
@@ -50,20 +49,10 @@ pub fn transfer_at(targets: &[i64], second: usize) -> Kilowatts
     ensures { λ r. ⌜ r ≡ transferAt (now (targets .entry)) second ⌝ }
 {
     let quarter = second / 900;
-    let last = target_at(targets, quarter);
-    let target = target_at(targets, quarter + 1);
+    let last = whole::at(targets, quarter);
+    let target = whole::at(targets, quarter + 1);
     let now = planned_at(Kilowatts(last), Kilowatts(target), second % 900 + 1);
     now.power
-}
-
-// The target at a place, and 0 past the end.
-fn target_at(targets: &[i64], place: usize) -> i64
-    ensures { λ r. ⌜ r ≡ getD (now (targets .entry)) place (pos 0) ⌝ }
-{
-    if place < targets.len() {
-        return targets[place];
-    }
-    0
 }
 
 fn are_targets(last: i64, target: i64) -> bool

@@ -5,6 +5,8 @@ use Rattle.whole.proofs.unless.Reads as unless
 use Rattle.whole.proofs.unless.Kinds as unless-kinds
 use Rattle.whole.proofs.or_else.Reads as or-else
 use Rattle.whole.proofs.or_else.Kinds as or-else-kinds
+use Rattle.whole.proofs.at.Reads as at
+use Rattle.whole.proofs.at.Kinds as at-kinds
 use Rattle.whole.proofs.within.Reads as within
 use Rattle.whole.proofs.within.Kinds as within-kinds
 use Rattle.whole.proofs.all_within.Reads as all-within
@@ -23,6 +25,9 @@ unless-determined κs a x y s t p q = p ∙ sym q
 
 or-else-determined : Determined 0 or-else-kinds.ps or-else-kinds.r or-else.Post
 or-else-determined κs a x y s t p q = p ∙ sym q
+
+at-determined : Determined 1 at-kinds.ps at-kinds.r at.Post
+at-determined κs a x y s t p q = p ∙ sym q
 
 within-determined : Determined 0 within-kinds.ps within-kinds.r within.Post
 within-determined κs a x y s t p q = p ∙ sym q

@@ -2,7 +2,8 @@
 ghost use mathlib.Core.Path.{_≡_};
 ghost use mir.Syntax.{w64};
 ghost use mir.Val.{SFits};
-ghost use lib.IntN.{natAbs};
+ghost use lib.IntN.{pos, natAbs};
+ghost use lib.ListN.{getD};
 ghost use Rattle.whole.specs.Choice.{unless, orElse};
 ghost use Rattle.whole.specs.Whole.{inRange, allInRange, withSign, halfUp, roundUp, nearest, away, summed};
 
@@ -18,6 +19,16 @@ pub fn or_else(k: u8, rest: u8) -> u8
     ensures { λ r. ⌜ r ≡ orElse k rest ⌝ }
 {
     if k == 0 { rest } else { k }
+}
+
+// The number at a place of a run, 0 past its end.
+pub fn at(run: &[i64], place: usize) -> i64
+    ensures { λ r. ⌜ r ≡ getD (now (run .entry)) place (pos 0) ⌝ }
+{
+    if place < run.len() {
+        return run[place];
+    }
+    0
 }
 
 // Whether x lies from low to high.

@@ -1,4 +1,4 @@
--- `ramp::transfer_at` meets its contract, by those of `target_at` and `planned_at`. Assumes nothing.
+-- `ramp::transfer_at` meets its contract, by those of `whole::at` and `planned_at`. Assumes nothing.
 use mathlib.Core.Path.{ap}
 use mir.Syntax.{w64}
 use borrow.Author.Needs.{needs}
@@ -8,14 +8,14 @@ use Rattle.ramp.specs.declared.Planned.{Planned}
 use Rattle.ramp.proofs.transfer_at.Statement.{statement}
 use Rattle.ramp.proofs.transfer_at.Tie as tie
 
-target-at-requires : tie.Need-target-at-requires
-target-at-requires c κs = search needs
+at-requires : tie.Need-at-requires
+at-requires c κs = search needs
 
-add-target-at : tie.Need-add-target-at
-add-target-at c = search needs
+add-at : tie.Need-add-at
+add-at c = search needs
 
-target-at-requires-2 : tie.Need-target-at-requires-2
-target-at-requires-2 c κs = search needs
+at-requires-2 : tie.Need-at-requires-2
+at-requires-2 c κs = search needs
 
 add-planned-at : tie.Need-add-planned-at
 add-planned-at c = search needs
@@ -27,17 +27,17 @@ returns : tie.Need-returns
 unfolding transferAt
 returns c =
     let p = c .before in
-    let last = back w64 (p .before .before .target-at .ok) (p .before .before .target-at .ensures) in
-    let target = back w64 (p .before .target-at2 .ok) (p .before .target-at2 .ensures) in
+    let last = back w64 (p .before .before .at .ok) (p .before .before .at .ensures) in
+    let target = back w64 (p .before .at2 .ok) (p .before .at2 .ensures) in
     ap (λ (x : Planned). x .power) (rw (last, target) at (p .planned-at .ensures))
 
 pub transfer-at-spec : {M : Type 1} → statement M
 transfer-at-spec =
     tie.close
     (tie.spec
-    target-at-requires
-    add-target-at
-    target-at-requires-2
+    at-requires
+    add-at
+    at-requires-2
     add-planned-at
     planned-at-requires
     returns)

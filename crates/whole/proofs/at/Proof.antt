@@ -1,10 +1,10 @@
--- `bands::at` meets its contract: past the end a list has its default. Assumes nothing.
+-- `whole::at` meets its contract: past the end a list has its default. Assumes nothing.
 use mathlib.Core.Path.{sym}
 use lib.IntN.{pos}
 use lib.ListN.{List·getD-eq-default}
 use borrow.Author.Needs.{needs}
-use Rattle.bands.proofs.at.Statement.{statement}
-use Rattle.bands.proofs.at.Tie as tie
+use Rattle.whole.proofs.at.Statement.{statement}
+use Rattle.whole.proofs.at.Tie as tie
 
 mul-result : tie.Need-mul-result
 mul-result c = search needs
