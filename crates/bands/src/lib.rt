@@ -2,7 +2,7 @@
 ghost use mathlib.Core.Path.{_≡_};
 ghost use Prim.Native.Nat.{_-_};
 ghost use lib.IntN.{pos};
-ghost use lib.ListN.{length, getD};
+ghost use lib.ListN.{length};
 ghost use Rattle.bands.specs.Bands.{fall, last, bandsFit, bandsRefusal, placeOf, answer, factorAnswer};
 ghost use Rattle.bands.specs.Records.{recordsRefusal, recordsAnswer};
 ghost use Rattle.bands.specs.Gathered.{none, next, gathered, refusalIn, answerIn};

@@ -7,6 +7,8 @@ use Rattle.hour.proofs.hour.Reads as hour-reads
 use Rattle.hour.proofs.hour.Kinds as hour-kinds
 use Rattle.hour.proofs.dreg_hour.Reads as dreg-hour-reads
 use Rattle.hour.proofs.dreg_hour.Kinds as dreg-hour-kinds
+use Rattle.hour.proofs.dreg_terms.Reads as dreg-terms-reads
+use Rattle.hour.proofs.dreg_terms.Kinds as dreg-terms-kinds
 use Rattle.hour.proofs.joint.Reads as joint-reads
 use Rattle.hour.proofs.joint.Kinds as joint-kinds
 
@@ -24,3 +26,6 @@ dreg-hour-scores-determined κs a x y s t p q = p .1 ∙ sym (q .1)
 
 joint-determined : Determined 4 joint-kinds.ps joint-kinds.r joint-reads.Post
 joint-determined κs a x y s t p q = p ∙ sym q
+
+dreg-terms-determined : Determined 0 dreg-terms-kinds.ps dreg-terms-kinds.r dreg-terms-reads.Post
+dreg-terms-determined κs a x y s t p q = p ∙ sym q

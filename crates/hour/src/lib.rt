@@ -275,7 +275,8 @@ pub fn hour(
     refused(k)
 }
 
-fn dreg_terms(capacity: Kilowatts, clearing: i64, performance: i64) -> Terms
+// The terms of a dReg hour, for the joint call too.
+pub fn dreg_terms(capacity: Kilowatts, clearing: i64, performance: i64) -> Terms
     ensures { λ r. ⌜ r ≡ dRegTerms capacity clearing performance ⌝ }
 {
     Terms {
