@@ -1,7 +1,7 @@
 -- What belongs to no one function.
-mod Core
-mod Sound
-mod Sums
+pub mod Core
+pub mod Sound
+pub mod Sums
 mod Readouts
 pub mod Demand
 pub mod Reach

@@ -1,0 +1,7 @@
+-- The laws that belong to no one function.
+mod Places
+mod Spelling
+mod Cutting
+mod Calls
+mod Going
+mod Totals

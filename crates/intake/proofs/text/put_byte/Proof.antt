@@ -1,0 +1,21 @@
+-- `intake::text::put_byte` meets its contract. Assumes nothing.
+use borrow.Author.Needs.{needs}
+use mathlib.Core.Path.{refl, sym}
+use Rattle.intake.proofs.Places.{put-one}
+use Rattle.intake.proofs.text.put_byte.Statement.{statement}
+use Rattle.intake.proofs.text.put_byte.Tie as tie
+
+slice-write-out : tie.Need-slice-write-out
+slice-write-out c = search needs
+
+add-result : tie.Need-add-result
+add-result c = search needs
+
+same-length : tie.Need-same-length
+same-length c = search needs
+
+returns : tie.Need-returns
+returns c = let a = c .args in (refl, sym (put-one (a .out .now) (a .at) (a .b) (c .pre)))
+
+pub put-byte-spec : {M : Type 1} → statement M
+put-byte-spec = tie.close (tie.spec slice-write-out add-result same-length returns)
