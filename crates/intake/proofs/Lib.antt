@@ -5,3 +5,6 @@ mod Cutting
 mod Calls
 mod Going
 mod Totals
+mod Good
+mod Transcript
+mod Determined

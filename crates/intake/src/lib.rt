@@ -26,7 +26,7 @@ mod cut;
 mod text;
 
 // The most lines that are answered.
-const MOST: u64 = 1_000_000;
+pub const MOST: u64 = 1_000_000;
 
 // A line that has begun: at most 25 bytes of it.
 pub struct Line {
@@ -292,6 +292,7 @@ fn answer_all(
     ensures marks { λ r. ⌜ now (filled .exit) ≡ chunkBook state (now (chunk .entry)) (now (filled .entry)) (now (amounts .entry)) .board .marks ⌝ }
     ensures items { λ r. ⌜ now (amounts .exit) ≡ chunkBook state (now (chunk .entry)) (now (filled .entry)) (now (amounts .entry)) .board .items ⌝ }
     ensures text { λ r. ⌜ now (out .exit) ≡ put (now (out .entry)) 0 (chunkText state (now (chunk .entry)) (now (filled .entry)) (now (amounts .entry))) ⌝ }
+    ensures room { λ r. ⌜ r .written ≤ length (now (out .entry)) ⌝ }
 {
     let mut desk = state.desk;
     let mut line = state.line;
@@ -350,6 +351,7 @@ pub fn feed(
     ensures marks { λ r. ⌜ now (filled .exit) ≡ fedMarks state (now (chunk .entry)) (now (filled .entry)) (now (amounts .entry)) (now (out .entry)) ⌝ }
     ensures items { λ r. ⌜ now (amounts .exit) ≡ fedAmounts state (now (chunk .entry)) (now (filled .entry)) (now (amounts .entry)) (now (out .entry)) ⌝ }
     ensures text { λ r. ⌜ now (out .exit) ≡ fedOut state (now (chunk .entry)) (now (filled .entry)) (now (amounts .entry)) (now (out .entry)) ⌝ }
+    ensures room { λ r. ⌜ r .written ≤ length (now (out .entry)) ⌝ }
 {
     if !chunk_fits(chunk.len(), filled.len(), amounts.len(), out.len()) {
         return Fed {
@@ -402,6 +404,7 @@ fn finish_all(state: State, filled: &mut [bool], amounts: &mut [i64], out: &mut 
     ensures marks { λ r. ⌜ now (filled .exit) ≡ lastBook state (now (filled .entry)) (now (amounts .entry)) .board .marks ⌝ }
     ensures items { λ r. ⌜ now (amounts .exit) ≡ lastBook state (now (filled .entry)) (now (amounts .entry)) .board .items ⌝ }
     ensures text { λ r. ⌜ now (out .exit) ≡ put (now (out .entry)) 0 (lastText state (now (filled .entry)) (now (amounts .entry))) ⌝ }
+    ensures room { λ r. ⌜ r .written ≤ length (now (out .entry)) ⌝ }
 {
     let work = last_line(state, filled, amounts, out);
     let desk = work.desk;
@@ -425,6 +428,7 @@ pub fn finish(state: State, filled: &mut [bool], amounts: &mut [i64], out: &mut 
     ensures marks { λ r. ⌜ now (filled .exit) ≡ endMarks state (now (filled .entry)) (now (amounts .entry)) (now (out .entry)) ⌝ }
     ensures items { λ r. ⌜ now (amounts .exit) ≡ endAmounts state (now (filled .entry)) (now (amounts .entry)) (now (out .entry)) ⌝ }
     ensures text { λ r. ⌜ now (out .exit) ≡ endOut state (now (filled .entry)) (now (amounts .entry)) (now (out .entry)) ⌝ }
+    ensures room { λ r. ⌜ r .written ≤ length (now (out .entry)) ⌝ }
 {
     if !end_fits(filled.len(), amounts.len(), out.len()) {
         return Finished {

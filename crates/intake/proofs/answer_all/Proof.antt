@@ -133,7 +133,7 @@ returns c = let l = c .before .before .before .loop in
     let begun = c .keep .ensures ∙ sym (left-stop (l .line) (a .chunk .now) (l .from) (l .end) (l .inv .4) e) ∙ sym (l .inv .7) in
     let long : l .at ≡ length (answersTo first all) = omega (arith, d .1 .0) in (
       λ i. record { refusal = 0; state = record { desk = deskOf (d .0 i); line = begun i }; written = long i },
-      (ap (λ (b : Book). b .board .marks) (d .0), (ap (λ (b : Book). b .board .items) (d .0), d .1 .1)),
+      (ap (λ (b : Book). b .board .marks) (d .0), (ap (λ (b : Book). b .board .items) (d .0), (d .1 .1, omega (arith, l .inv .3, l .inv .5, c .before .before .before .before .before .before .before .before .before .before .pre .0)))),
     )
 
 pub answer-all-spec : {M : Type 1} → statement M

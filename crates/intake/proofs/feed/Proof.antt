@@ -1,5 +1,6 @@
 -- `intake::feed` meets its contract: by its one test. Assumes nothing.
 use borrow.Author.Needs.{needs}
+use native.Mathlib.Omega.{arith}
 use mathlib.Core.Path.{_≡_, refl, sym, _∙_}
 use mathlib.Core.Bool.{true}
 use borrow.Author.Tests.{not-true, not-false}
@@ -16,7 +17,7 @@ chunk-fits-requires c κs = search needs
 
 returns : tie.Need-returns
 unfolding fedOf fedMarks fedAmounts fedOut
-returns c = let e = sym (c .before .chunk-fits .ensures) ∙ not-true _ (c .if1 .taken) in rw e (refl, (refl, (refl, refl)))
+returns c = let e = sym (c .before .chunk-fits .ensures) ∙ not-true _ (c .if1 .taken) in rw e (refl, (refl, (refl, (refl, omega arith))))
 
 answer-all-requires : tie.Need-answer-all-requires
 answer-all-requires c κs = chunk-room _ _ _ _ (fit (c .before .before .before))

@@ -1,5 +1,6 @@
 -- `intake::finish` meets its contract: by its one test. Assumes nothing.
 use borrow.Author.Needs.{needs}
+use native.Mathlib.Omega.{arith}
 use mathlib.Core.Path.{_≡_, refl, sym, _∙_}
 use mathlib.Core.Bool.{true}
 use borrow.Author.Tests.{not-true, not-false}
@@ -16,7 +17,7 @@ end-fits-requires c κs = search needs
 
 returns : tie.Need-returns
 unfolding finishedOf endMarks endAmounts endOut
-returns c = let e = sym (c .before .end-fits .ensures) ∙ not-true _ (c .if1 .taken) in rw e (refl, (refl, (refl, refl)))
+returns c = let e = sym (c .before .end-fits .ensures) ∙ not-true _ (c .if1 .taken) in rw e (refl, (refl, (refl, (refl, omega arith))))
 
 finish-all-requires : tie.Need-finish-all-requires
 finish-all-requires c κs = end-room _ _ _ (fit (c .before .before .before))

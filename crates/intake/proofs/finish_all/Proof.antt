@@ -60,7 +60,7 @@ returns c = let p = c .before .before in
     let t = rw (total-is d) at (p .put-total .ensures) in
     let two = put-then (a .out .now) _ _ 0 _ _ first (totalText (settled book)) (omega (arith, r .1 .0, r .1 .1 .1, s .pre .0)) (omega (arith, r .1 .0)) (r .1 .1 .0) (t .0) (t .1) in
     let long : p .put-total .result ≡ length (first ++ totalText (settled book)) = omega (arith, two .0) in
-    (λ i. record { refusal = 0; written = long i }, (ap (λ (b : Book). b .board .marks) (r .0), (ap (λ (b : Book). b .board .items) (r .0), two .1)))
+    (λ i. record { refusal = 0; written = long i }, (ap (λ (b : Book). b .board .marks) (r .0), (ap (λ (b : Book). b .board .items) (r .0), (two .1, omega (arith, p .put-total .ensures .0, short d, r .1 .1 .1, s .pre .0)))))
 
 pub finish-all-spec : {M : Type 1} → statement M
 finish-all-spec =

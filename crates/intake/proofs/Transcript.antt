@@ -1,0 +1,150 @@
+-- The program's whole output is the transcript of its whole input, however the input was cut into chunks. By induction on the chunks. Assumes
+-- nothing.
+use Prim.Native.Nat.{ℕ}
+use mathlib.Core.Path.{_≡_, refl, sym, ap, ap₂, _∙_}
+use mathlib.Core.Bool.{Bool, true, false}
+use mathlib.Core.List.{List, [], _∷_, _++_, map, append-assoc}
+use native.Mathlib.Omega.{arith}
+use lib.Dec.{eqb, ltb}
+use lib.IntN.{ℤ, pos}
+use lib.ListN.{length, take, replicate}
+use borrow.Author.Tests.{eq-eqb, ne-eqb, ltb-true, ltb-false}
+use Rattle.whole.specs.Choice.{pick}
+use Rattle.whole.proofs.Choice.{by-test}
+use Rattle.history.specs.Board.{fresh}
+use Rattle.intake.specs.Lines.{lineEnd, linesAfter, linesOf}
+use Rattle.intake.specs.Text.{totalText}
+use Rattle.intake.specs.Book.{Book, firstBook, answerTo, bookAfter, answersTo, bookAfterAll, transcript}
+use Rattle.intake.specs.Desk.{heldIn, emptyLine, pushed, linesIn, leftIn, lastIn, bookOf, startState, chunkText, chunkBook, chunkState, lastText, settled}
+use Rattle.intake.specs.declared.Line.{Line}
+use Rattle.intake.specs.declared.State.{State}
+use Rattle.intake.proofs.Cutting.{Shows, shows-empty, shows-push, reading-kept}
+use Rattle.intake.proofs.Good.{book-kept, settled-total}
+
+-- ---- lines, one chunk after the other
+
+abbrev pub joined : List (List ℕ) → List ℕ
+joined [] = []
+joined (c ∷ cs) = c ++ joined cs
+
+append-by : (l m : Line) (xs ys : List ℕ) (t : Bool)
+    → linesIn emptyLine (xs ++ ys) ≡ linesIn emptyLine xs ++ linesIn (leftIn emptyLine xs) ys → linesIn m (xs ++ ys) ≡ linesIn m xs ++ linesIn (leftIn m xs) ys
+    → pick t (heldIn l ∷ linesIn emptyLine (xs ++ ys)) (linesIn m (xs ++ ys))
+    ≡ pick t (heldIn l ∷ linesIn emptyLine xs) (linesIn m xs) ++ linesIn (pick t (leftIn emptyLine xs) (leftIn m xs)) ys
+append-by l m xs ys true p q = ap (λ (r : List (List ℕ)). heldIn l ∷ r) p
+append-by l m xs ys false p q = q
+
+lines-append : (l : Line) (xs ys : List ℕ) → linesIn l (xs ++ ys) ≡ linesIn l xs ++ linesIn (leftIn l xs) ys
+lines-append l [] ys = refl
+lines-append l (x ∷ xs) ys = append-by l (pushed l x) xs ys (eqb x lineEnd) (lines-append emptyLine xs ys) (lines-append (pushed l x) xs ys)
+
+left-by : (m : Line) (xs ys : List ℕ) (t : Bool) → leftIn emptyLine (xs ++ ys) ≡ leftIn (leftIn emptyLine xs) ys → leftIn m (xs ++ ys) ≡ leftIn (leftIn m xs) ys
+    → pick t (leftIn emptyLine (xs ++ ys)) (leftIn m (xs ++ ys)) ≡ leftIn (pick t (leftIn emptyLine xs) (leftIn m xs)) ys
+left-by m xs ys true p q = p
+left-by m xs ys false p q = q
+
+left-append : (l : Line) (xs ys : List ℕ) → leftIn l (xs ++ ys) ≡ leftIn (leftIn l xs) ys
+left-append l [] ys = refl
+left-append l (x ∷ xs) ys = left-by (pushed l x) xs ys (eqb x lineEnd) (left-append emptyLine xs ys) (left-append (pushed l x) xs ys)
+
+-- all the lines of an input from a line that has begun
+abbrev linesFrom : Line → List ℕ → List (List ℕ)
+linesFrom l xs = linesIn l xs ++ lastIn (leftIn l xs)
+
+-- they are the input's, each up to 25 bytes
+last-by : (l : Line) (cur : List ℕ) → Shows l cur → lastIn l ≡ map (take 25) (pick (eqb (length cur) 0) [] (cur ∷ []))
+unfolding lastIn
+last-by l cur s =
+    by-test (ltb 0 (length cur))
+    (λ (t : ltb 0 (length cur) ≡ true).
+    let h = ltb-true 0 (length cur) t in
+    rw (ne-eqb (length cur) 0 (λ e. omega arith), ne-eqb (l .len) 0 (λ e. omega (arith, s .len)), s .held))
+    (λ (t : ltb 0 (length cur) ≡ false).
+    let h = ltb-false 0 (length cur) t in
+    rw (eq-eqb (length cur) 0 (omega arith), eq-eqb (l .len) 0 (omega (arith, s .len))))
+
+whole-by : (l m : Line) (cur more : List ℕ) (xs : List ℕ) (t : Bool) → heldIn l ≡ take 25 cur
+    → linesFrom emptyLine xs ≡ map (take 25) (linesAfter [] xs)
+    → linesFrom m xs ≡ map (take 25) (linesAfter more xs)
+    → pick t (heldIn l ∷ linesIn emptyLine xs) (linesIn m xs) ++ lastIn (pick t (leftIn emptyLine xs) (leftIn m xs))
+    ≡ map (take 25) (pick t (cur ∷ linesAfter [] xs) (linesAfter more xs))
+whole-by l m cur more xs true h p q = rw (h, p)
+whole-by l m cur more xs false h p q = q
+
+whole : (l : Line) (cur xs : List ℕ) → Shows l cur → linesFrom l xs ≡ map (take 25) (linesAfter cur xs)
+whole l cur [] s = last-by l cur s
+whole l cur (x ∷ xs) s =
+    whole-by l (pushed l x) cur (cur ++ (x ∷ [])) xs (eqb x lineEnd) (s .held) (whole emptyLine [] xs shows-empty)
+    (whole (pushed l x) (cur ++ (x ∷ [])) xs (shows-push l cur x s))
+
+-- ---- what is answered to lines up to 25 bytes is what is answered to the lines
+
+answer-kept : (book : Book) (l : List ℕ) → answerTo book (take 25 l) ≡ answerTo book l
+unfolding answerTo
+answer-kept book l = rw (reading-kept l)
+
+book-kept-25 : (book : Book) (l : List ℕ) → bookAfter book (take 25 l) ≡ bookAfter book l
+unfolding bookAfter
+book-kept-25 book l = rw (reading-kept l)
+
+answers-kept : (book : Book) (ls : List (List ℕ)) → answersTo book (map (take 25) ls) ≡ answersTo book ls
+answers-kept book [] = refl
+answers-kept book (l ∷ ls) =
+    ap₂ (λ (s : List ℕ) (b : Book). s ++ answersTo b (map (take 25) ls)) (answer-kept book l) (book-kept-25 book l)
+    ∙ ap (λ (r : List ℕ). answerTo book l ++ r) (answers-kept (bookAfter book l) ls)
+
+books-kept : (book : Book) (ls : List (List ℕ)) → bookAfterAll book (map (take 25) ls) ≡ bookAfterAll book ls
+books-kept book [] = refl
+books-kept book (l ∷ ls) = ap (λ (b : Book). bookAfterAll b (map (take 25) ls)) (book-kept-25 book l) ∙ books-kept (bookAfter book l) ls
+
+-- ---- lines answered one part after the other
+
+answers-append : (book : Book) (ls ms : List (List ℕ)) → answersTo book (ls ++ ms) ≡ answersTo book ls ++ answersTo (bookAfterAll book ls) ms
+answers-append book [] ms = refl
+answers-append book (l ∷ ls) ms =
+    ap (λ (r : List ℕ). answerTo book l ++ r) (answers-append (bookAfter book l) ls ms)
+    ∙ sym (append-assoc (answerTo book l) (answersTo (bookAfter book l) ls) (answersTo (bookAfterAll (bookAfter book l) ls) ms))
+
+books-append : (book : Book) (ls ms : List (List ℕ)) → bookAfterAll book (ls ++ ms) ≡ bookAfterAll (bookAfterAll book ls) ms
+books-append book [] ms = refl
+books-append book (l ∷ ls) ms = books-append (bookAfter book l) ls ms
+
+-- ---- the program
+
+-- what `feed` writes for chunk after chunk, each from the state and the two runs that the one before left, and then what `finish` writes
+abbrev pub outputFrom : State → List Bool → List ℤ → List (List ℕ) → List ℕ
+outputFrom state filled amounts [] = lastText state filled amounts
+outputFrom state filled amounts (c ∷ cs) =
+    chunkText state c filled amounts
+    ++ outputFrom (chunkState state c filled amounts) (chunkBook state c filled amounts .board .marks) (chunkBook state c filled amounts .board .items) cs
+
+abbrev endsWith : Book → List (List ℕ) → List ℕ
+endsWith book ls = answersTo book ls ++ totalText (settled (bookAfterAll book ls))
+
+ends-append : (book : Book) (ls ms : List (List ℕ)) → endsWith book (ls ++ ms) ≡ answersTo book ls ++ endsWith (bookAfterAll book ls) ms
+ends-append book ls ms =
+    ap₂ (λ (s : List ℕ) (b : Book). s ++ totalText (settled b)) (answers-append book ls ms) (books-append book ls ms)
+    ∙ append-assoc (answersTo book ls) (answersTo (bookAfterAll book ls) ms) (totalText (settled (bookAfterAll (bookAfterAll book ls) ms)))
+
+from-append : (l : Line) (xs ys : List ℕ) → linesFrom l (xs ++ ys) ≡ linesIn l xs ++ linesFrom (leftIn l xs) ys
+from-append l xs ys = rw (lines-append l xs ys, left-append l xs ys, append-assoc)
+
+output-is : (state : State) (filled : List Bool) (amounts : List ℤ) (cs : List (List ℕ))
+    → outputFrom state filled amounts cs ≡ endsWith (bookOf (state .desk) filled amounts) (linesFrom (state .line) (joined cs))
+output-is state filled amounts [] = refl
+output-is state filled amounts (c ∷ cs) =
+    let book = bookOf (state .desk) filled amounts in
+    let ls = linesIn (state .line) c in
+    ap (λ (r : List ℕ). answersTo book ls ++ r)
+    (output-is (chunkState state c filled amounts) (chunkBook state c filled amounts .board .marks) (chunkBook state c filled amounts .board .items) cs)
+    ∙ sym (ap (endsWith book) (from-append (state .line) c (joined cs)) ∙ ends-append book ls (linesFrom (leftIn (state .line) c) (joined cs)))
+
+-- "Given .. it prints": from the first state and a month's empty places, any cutting of an input gives its transcript
+pub output-transcript : (cs : List (List ℕ)) → outputFrom startState (replicate 744 false) (replicate 744 (pos 0)) cs ≡ transcript (joined cs)
+unfolding startState transcript fresh
+output-transcript cs =
+    let input = joined cs in
+    output-is startState (replicate 744 false) (replicate 744 (pos 0)) cs
+    ∙ ap (endsWith firstBook) (whole emptyLine [] input shows-empty)
+    ∙ ap₂ (λ (s : List ℕ) (b : Book). s ++ totalText (settled b)) (answers-kept firstBook (linesOf input)) (books-kept firstBook (linesOf input))
+    ∙ ap (λ (z : ℤ). answersTo firstBook (linesOf input) ++ totalText z) (settled-total (bookAfterAll firstBook (linesOf input)) (book-kept (linesOf input)))

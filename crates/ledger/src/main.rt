@@ -1,0 +1,75 @@
+// The program `ledger`: reads, hands what it read to crates/intake, writes what that answers, and stops.
+use intake::State;
+ghost use lib.ListN.{length};
+ghost use mathlib.Core.Path.{_≡_};
+
+// The state after a read; whether there is more to read; whether a read or a write failed.
+struct Turn {
+    state: State,
+    more: bool,
+    failed: bool,
+}
+
+// Twelve bytes of answers for each byte of a read.
+fn room() -> [u8; 786432]
+    ensures { λ r. ⌜ 786432 ≡ length r ⌝ }
+{
+    [0; 786432]
+}
+
+// One read, and one write of the answers to the lines that end in it. No more is read once every line is answered that ever will be.
+fn turn(
+    state: State,
+    input: &mut [u8],
+    filled: &mut [bool],
+    amounts: &mut [i64],
+    out: &mut [u8],
+) -> Turn {
+    let got = libc::read(0, input);
+    if got < 0 {
+        return Turn {
+            state,
+            more: false,
+            failed: true,
+        };
+    }
+    let n = io::count(got, input);
+    let fed = intake::feed(state, &input[..n], filled, amounts, out);
+    let wrote = io::write_all(1, &out[..fed.written]);
+    let next = fed.state;
+    let desk = next.desk;
+    Turn {
+        state: next,
+        more: (0 < n) & wrote & (desk.count < intake::MOST),
+        failed: !wrote,
+    }
+}
+
+// The answer to a last line without its end, and the total.
+fn close(state: State, filled: &mut [bool], amounts: &mut [i64], out: &mut [u8]) {
+    let finished = intake::finish(state, filled, amounts, out);
+    io::write_all(1, &out[..finished.written]);
+}
+
+fn main() {
+    let mut filled = [false; 744];
+    let mut amounts = [0i64; 744];
+    let mut input = io::large_buffer();
+    let mut out = room();
+    let mut now = Turn {
+        state: intake::start(),
+        more: true,
+        failed: false,
+    };
+    // A proved loop has to end: it counts its reads down, from a number that no run uses up.
+    let mut turns = u64::MAX;
+    while now.more & (0 < turns) {
+        let state = now.state;
+        now = turn(state, &mut input, &mut filled, &mut amounts, &mut out);
+        turns -= 1;
+    }
+    if !now.failed {
+        let state = now.state;
+        close(state, &mut filled, &mut amounts, &mut out);
+    }
+}
