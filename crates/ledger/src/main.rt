@@ -18,7 +18,7 @@ fn room() -> [u8; 786432]
 }
 
 // One read, and one write of the answers to the lines that end in it. No more is read once every line is answered that ever will be.
-fn turn(
+fn read_once(
     state: State,
     input: &mut [u8],
     filled: &mut [bool],
@@ -65,7 +65,7 @@ fn main() {
     let mut turns = u64::MAX;
     while now.more & (0 < turns) {
         let state = now.state;
-        now = turn(state, &mut input, &mut filled, &mut amounts, &mut out);
+        now = read_once(state, &mut input, &mut filled, &mut amounts, &mut out);
         turns -= 1;
     }
     if !now.failed {
