@@ -7,7 +7,7 @@ use lib.IntN.{ℤ, pos}
 use lib.ListN.{replicate}
 use borrow.Author.Tests.{eq-eqb, ne-eqb, lt-ltb, le-ltb}
 use lib.Dec.{eqb}
-use Rattle.whole.specs.Choice.{pick}
+use Rattle.whole.specs.Choice.{pick, unless, orElse}
 use Rattle.whole.proofs.Choice.{kept-new, kept-old}
 use Rattle.units.specs.Refusals.{notOpen}
 use Rattle.history.specs.Rules.{Call, post, replace, withdraw, lossFee, close}
@@ -66,6 +66,11 @@ module _ (desk : Desk) (fs : List Bool) (xs : List ℤ) (c : Call ℤ) where
   called-head o h = called (headedOf (desk .head) c .head) fs xs (headedOf (desk .head) c .refusal) o (h .number) (h .board) (h .days)
 
 -- ---- an open
+
+-- 14, and then what the rest says
+pub or-14 : (t : Bool) (rest : ℕ) → orElse (unless t notOpen 0) rest ≡ unless t notOpen rest
+or-14 true rest = refl
+or-14 false rest = refl
 
 module _ (desk : Desk) (fs : List Bool) (xs : List ℤ) (days : ℕ) where
   pub opened-not : (openRefusal (bookOf desk fs xs) days ≡ 0 → ⊥) → bookOf desk fs xs ≡ openBook (bookOf desk fs xs) days

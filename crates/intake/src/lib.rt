@@ -100,11 +100,9 @@ fn clear_amounts(amounts: &mut [i64])
 fn open_refusal(desk: Desk, days: u8) -> u8
     ensures { λ r. ⌜ r ≡ unless (not (desk .opened)) notOpen (unless (isDays days) notInMonth 0) ⌝ }
 {
-    whole::unless(
-        !desk.opened,
-        refusals::NOT_OPEN,
-        whole::unless(is_days(days), refusals::NOT_IN_MONTH, 0),
-    )
+    let opened = whole::unless(!desk.opened, refusals::NOT_OPEN, 0);
+    let range = whole::unless(is_days(days), refusals::NOT_IN_MONTH, 0);
+    whole::or_else(opened, range)
 }
 
 // Opens a month: 14, 6.
@@ -389,7 +387,8 @@ fn last_line(state: State, filled: &mut [bool], amounts: &mut [i64], out: &mut [
 {
     let desk = state.desk;
     let line = state.line;
-    if line.len == 0 {
+    let len = line.len;
+    if len == 0 {
         return Work { desk, at: 0 };
     }
     answer(desk, line, b"", filled, amounts, out, 0)

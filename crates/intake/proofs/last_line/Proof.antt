@@ -11,7 +11,7 @@ use Rattle.intake.proofs.last_line.Statement.{statement}
 use Rattle.intake.proofs.last_line.Tie as tie
 
 returns : tie.Need-returns
-returns c = let a = c .before .before .before .before .before .before .args in
+returns c = let a = c .before .before .before .before .before .args in
     let n = last-none (bookOf (a .state .desk) (a .filled .now) (a .amounts .now)) (a .state .line) (c .if1 .taken) in
     (sym (n .0), (ap length (sym (n .1)), (sym (ap (put (a .out .now) 0) (n .1) ∙ put-nothing (a .out .now) 0), omega arith)))
 
@@ -33,7 +33,7 @@ same-length-3 c = search needs
 returns-2 : tie.Need-returns-2
 returns-2 c = let q = c .before .before .before .before .before in
     let e = q .before .before .before .before .before in
-    let a = e .before .before .before .before .before .before .args in
+    let a = e .before .before .before .before .before .args in
     let n = last-some (bookOf (a .state .desk) (a .filled .now) (a .amounts .now)) (a .state .line) (e .if1 .left) in
     let r = q .answer .ensures in
     (r .0 ∙ sym (n .0), (omega (arith, r .1 .0, ap length (n .1)), (r .1 .1 .0 ∙ ap (put (a .out .now) 0) (sym (n .1)), omega (arith, r .1 .1 .1))))
