@@ -7,4 +7,5 @@ mod Going
 mod Totals
 mod Good
 mod Transcript
+mod Contracts
 mod Determined

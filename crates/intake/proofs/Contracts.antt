@@ -1,0 +1,158 @@
+-- The transcript over the contracts as the toolchain reads them: any run of answers that meet `feed`'s, one for each chunk and each accepted, and of
+-- one that meets `finish`'s, from the first state and a month's empty places, has printed the transcript of the whole input. The contracts are
+-- equations, so that this follows from the definitions. Assumes nothing.
+use Prim.Native.Nat.{ℕ}
+use mathlib.Core.Path.{_≡_, sym, ap, ap₂, _∙_}
+use mathlib.Core.Bool.{Bool, true, false}
+use mathlib.Core.List.{List, [], _∷_, _++_}
+use native.Mathlib.Omega.{arith}
+use lib.IntN.{ℤ, pos}
+use lib.ListN.{length, take, replicate}
+use lib.Seq.{take-append-seam}
+use contract.Lifetimes.{Lfts}
+use denote.Ref.{now}
+use denote.Triple.Clauses.{AtExit}
+use borrow.Fn.Kinds.{Dens, endedOf}
+use Rattle.whole.proofs.Choice.{by-test}
+use Rattle.intake.specs.Text.{put}
+use Rattle.intake.specs.Book.{transcript}
+use Rattle.intake.specs.Desk.{startState, chunkText, chunkBook, chunkState, lastText, fits, ends, fedOf, fedMarks, fedAmounts, fedOut, finishedOf, endOut}
+use Rattle.intake.specs.declared.State.{State}
+use Rattle.intake.specs.declared.Fed.{Fed}
+use Rattle.intake.specs.declared.Finished.{Finished}
+use Rattle.intake.proofs.Transcript.{joined, outputFrom, output-transcript}
+use Rattle.intake.proofs.feed.Reads as feed-reads
+use Rattle.intake.proofs.feed.Kinds as feed-kinds
+use Rattle.intake.proofs.finish.Reads as finish-reads
+use Rattle.intake.proofs.finish.Kinds as finish-kinds
+
+-- an accepted call of `feed`: what is handed in, the state and runs that it leaves, and the text that it wrote
+pub record Feeds (state : State) (chunk : List ℕ) (filled : List Bool) (amounts : List ℤ) (next : State) (marks : List Bool) (items : List ℤ) (text : List ℕ) : Type 0 where
+  pub κs : Lfts 4
+  pub handed : Dens κs feed-kinds.ps
+  pub answer : Fed
+  pub left : AtExit (endedOf 4 feed-kinds.ps feed-kinds.r) κs
+  pub post : feed-reads.Post κs handed answer left
+  pub accepted : answer .refusal ≡ 0
+  pub is-state : handed .0 ≡ state
+  pub is-chunk : now (handed .1 .0) ≡ chunk
+  pub is-filled : now (handed .1 .1 .0) ≡ filled
+  pub is-amounts : now (handed .1 .1 .1 .0) ≡ amounts
+  pub is-next : answer .state ≡ next
+  pub is-marks : now (left .1 .1 .0) ≡ marks
+  pub is-items : now (left .1 .1 .1 .0) ≡ items
+  pub is-text : take (answer .written) (now (left .1 .1 .1 .1 .0)) ≡ text
+
+-- and of `finish`
+pub record Finishes (state : State) (filled : List Bool) (amounts : List ℤ) (text : List ℕ) : Type 0 where
+  pub κs : Lfts 3
+  pub handed : Dens κs finish-kinds.ps
+  pub answer : Finished
+  pub left : AtExit (endedOf 3 finish-kinds.ps finish-kinds.r) κs
+  pub post : finish-reads.Post κs handed answer left
+  pub accepted : answer .refusal ≡ 0
+  pub is-state : handed .0 ≡ state
+  pub is-filled : now (handed .1 .0) ≡ filled
+  pub is-amounts : now (handed .1 .1 .0) ≡ amounts
+  pub is-text : take (answer .written) (now (left .1 .1 .1 .0)) ≡ text
+
+-- chunk after chunk, each given the state and runs that the one before left, and the end
+pub data Prints : State → List Bool → List ℤ → List (List ℕ) → List ℕ → Type 0 where
+  finished : {state : State} {filled : List Bool} {amounts : List ℤ} {text : List ℕ} → Finishes state filled amounts text → Prints state filled amounts [] text
+  fed : {state next : State} {filled marks : List Bool} {amounts items : List ℤ} {chunk : List ℕ} {cs : List (List ℕ)} {text rest : List ℕ}
+      → Feeds state chunk filled amounts next marks items text → Prints next marks items cs rest → Prints state filled amounts (chunk ∷ cs) (text ++ rest)
+
+-- ---- what an accepted call leaves
+
+written-front : (out text : List ℕ) → take (length text) (put out 0 text) ≡ text
+unfolding put
+written-front out text = take-append-seam text _
+
+module _ (state : State) (chunk : List ℕ) (filled : List Bool) (amounts : List ℤ) (out : List ℕ) (z : fedOf state chunk filled amounts out .refusal ≡ 0) where
+  fit : fits state chunk filled amounts out ≡ true
+  unfolding fedOf
+  fit =
+      by-test (fits state chunk filled amounts out)
+      (λ (t : fits state chunk filled amounts out ≡ true). t)
+      (λ (t : fits state chunk filled amounts out ≡ false). let n : _≡_ {A = ℕ} 1 0 = rw t at z in absurd (omega arith))
+
+  state-left : fedOf state chunk filled amounts out .state ≡ chunkState state chunk filled amounts
+  unfolding fedOf
+  state-left = rw fit
+
+  marks-left : fedMarks state chunk filled amounts out ≡ chunkBook state chunk filled amounts .board .marks
+  unfolding fedMarks
+  marks-left = rw fit
+
+  items-left : fedAmounts state chunk filled amounts out ≡ chunkBook state chunk filled amounts .board .items
+  unfolding fedAmounts
+  items-left = rw fit
+
+  text-left : take (fedOf state chunk filled amounts out .written) (fedOut state chunk filled amounts out) ≡ chunkText state chunk filled amounts
+  unfolding fedOf fedOut
+  text-left = rw fit (written-front out (chunkText state chunk filled amounts))
+
+module _ (state : State) (filled : List Bool) (amounts : List ℤ) (out : List ℕ) (z : finishedOf state filled amounts out .refusal ≡ 0) where
+  end-fit : ends state filled amounts out ≡ true
+  unfolding finishedOf
+  end-fit =
+      by-test (ends state filled amounts out)
+      (λ (t : ends state filled amounts out ≡ true). t)
+      (λ (t : ends state filled amounts out ≡ false). let n : _≡_ {A = ℕ} 1 0 = rw t at z in absurd (omega arith))
+
+  end-left : take (finishedOf state filled amounts out .written) (endOut state filled amounts out) ≡ lastText state filled amounts
+  unfolding finishedOf endOut
+  end-left = rw end-fit (written-front out (lastText state filled amounts))
+
+-- ---- so each call is what the definitions say
+
+record Fedly (state : State) (chunk : List ℕ) (filled : List Bool) (amounts : List ℤ) (next : State) (marks : List Bool) (items : List ℤ) (text : List ℕ) : Type 0 where
+  pub next-is : next ≡ chunkState state chunk filled amounts
+  pub marks-is : marks ≡ chunkBook state chunk filled amounts .board .marks
+  pub items-is : items ≡ chunkBook state chunk filled amounts .board .items
+  pub text-is : text ≡ chunkText state chunk filled amounts
+
+fedly : {state next : State} {chunk : List ℕ} {filled marks : List Bool} {amounts items : List ℤ} {text : List ℕ}
+    → Feeds state chunk filled amounts next marks items text → Fedly state chunk filled amounts next marks items text
+fedly f =
+    let h = f .handed in
+    let st = h .0 in
+    let ch = now (h .1 .0) in
+    let fs = now (h .1 .1 .0) in
+    let xs = now (h .1 .1 .1 .0) in
+    let out = now (h .1 .1 .1 .1 .0) in
+    let p = f .post in
+    let z : fedOf st ch fs xs out .refusal ≡ 0 = sym (ap (λ (r : Fed). r .refusal) (p .0)) ∙ f .accepted in
+    let given : Fedly st ch fs xs (f .answer .state) (now (f .left .1 .1 .0)) (now (f .left .1 .1 .1 .0)) (take (f .answer .written) (now (f .left .1 .1 .1 .1 .0))) =
+    record {
+      next-is = ap (λ (r : Fed). r .state) (p .0) ∙ state-left st ch fs xs out z;
+      marks-is = p .1 .0 ∙ marks-left st ch fs xs out z;
+      items-is = p .1 .1 .0 ∙ items-left st ch fs xs out z;
+      text-is = ap₂ (λ (r : Fed) (o : List ℕ). take (r .written) o) (p .0) (p .1 .1 .1 .0) ∙ text-left st ch fs xs out z;
+    } in
+    rw (f .is-state, f .is-chunk, f .is-filled, f .is-amounts, f .is-next, f .is-marks, f .is-items, f .is-text) at given
+
+endly : {state : State} {filled : List Bool} {amounts : List ℤ} {text : List ℕ} → Finishes state filled amounts text → text ≡ lastText state filled amounts
+endly f =
+    let h = f .handed in
+    let st = h .0 in
+    let fs = now (h .1 .0) in
+    let xs = now (h .1 .1 .0) in
+    let out = now (h .1 .1 .1 .0) in
+    let p = f .post in
+    let z : finishedOf st fs xs out .refusal ≡ 0 = sym (ap (λ (r : Finished). r .refusal) (p .0)) ∙ f .accepted in
+    let given : take (f .answer .written) (now (f .left .1 .1 .1 .0)) ≡ lastText st fs xs =
+    ap₂ (λ (r : Finished) (o : List ℕ). take (r .written) o) (p .0) (p .1 .1 .1 .0) ∙ end-left st fs xs out z in
+    rw (f .is-state, f .is-filled, f .is-amounts, f .is-text) at given
+
+printed-is : {state : State} {filled : List Bool} {amounts : List ℤ} {cs : List (List ℕ)} {text : List ℕ}
+    → Prints state filled amounts cs text → text ≡ outputFrom state filled amounts cs
+printed-is (finished f) = endly f
+printed-is (fed {cs = cs} {rest = rest} f more) =
+    let d = fedly f in
+    ap₂ _++_ (d .text-is)
+    (printed-is more ∙ ap₂ (λ (s : State) (m : List Bool × List ℤ). outputFrom s (m .0) (m .1) cs) (d .next-is) (ap₂ (λ (b : List Bool) (x : List ℤ). (b, x)) (d .marks-is) (d .items-is)))
+
+-- from the first state and a month's empty places, whatever meets the contracts prints the transcript of the chunks joined
+pub prints-transcript : (cs : List (List ℕ)) (text : List ℕ) → Prints startState (replicate 744 false) (replicate 744 (pos 0)) cs text → text ≡ transcript (joined cs)
+prints-transcript cs text p = printed-is p ∙ output-transcript cs
