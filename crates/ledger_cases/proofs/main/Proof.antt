@@ -1,0 +1,84 @@
+-- `ledger_cases::main` is safe and ends: the number of reads that are left falls, and each array keeps its length. Assumes nothing.
+use native.Mathlib.Omega.{arith}
+use Prim.Native.Nat.{_<_}
+use mathlib.Core.Path.{_≡_, refl, sym}
+use Rattle.whole.proofs.Choice.{and-both}
+use lib.Dec.{ltb}
+use lib.ListN.{length}
+use borrow.Author.Tests.{ltb-true}
+use Rattle.ledger_cases.proofs.main.Statement.{statement}
+use Rattle.ledger_cases.proofs.main.Tie as tie
+use Rattle.ledger_cases.proofs.main.Reads as reads
+use Rattle.ledger_cases.proofs.main.Lts as lts
+use Rattle.intake.proofs.start.Reads as start-reads
+use Rattle.io.proofs.buffer.Reads as buffer-reads
+use Rattle.ledger_cases.proofs.read_once.Reads as read-once-reads
+
+abbrev Inv-loop : tie.InvT-loop
+Inv-loop filled₀ amounts₀ input₀ out₀ now₀ turns₀ filled amounts input out now turns =
+    (length filled ≡ 744) × (length amounts ≡ 744) × (length input ≡ 4096) × (length out ≡ 64)
+
+abbrev μ-loop : tie.MeasureT-loop
+μ-loop filled₀ amounts₀ input₀ out₀ now₀ turns₀ filled amounts input out now turns = turns
+
+buffer-requires : tie.Need-buffer-requires Inv-loop μ-loop
+buffer-requires c κs = tt
+
+start-requires : tie.Need-start-requires Inv-loop μ-loop
+start-requires c κs = tt
+
+loop-holds : tie.Need-loop-holds Inv-loop μ-loop
+loop-holds c = (refl, refl, sym (c .before .buffer .ensures), refl)
+
+slice-aggregate-read-once : tie.Need-slice-aggregate-read-once Inv-loop μ-loop
+slice-aggregate-read-once c = omega arith
+
+slice-aggregate-read-once-2 : tie.Need-slice-aggregate-read-once-2 Inv-loop μ-loop
+slice-aggregate-read-once-2 c = omega arith
+
+slice-aggregate-read-once-3 : tie.Need-slice-aggregate-read-once-3 Inv-loop μ-loop
+slice-aggregate-read-once-3 c = omega arith
+
+slice-aggregate-read-once-4 : tie.Need-slice-aggregate-read-once-4 Inv-loop μ-loop
+slice-aggregate-read-once-4 c = omega arith
+
+read-once-requires : tie.Need-read-once-requires Inv-loop μ-loop
+read-once-requires c κs = tt
+
+-- a read is left
+some : (c : tie.Then1 Inv-loop μ-loop) → 0 < c .before .before .loop .turns
+some c = let l = c .before .before .loop in ltb-true 0 (l .turns) (and-both (l .now .more) (ltb 0 (l .turns)) (c .if1 .taken) .1)
+
+sub-turns : tie.Need-sub-turns Inv-loop μ-loop
+sub-turns c = omega (arith, some (c .before .before .before .before .before .before .before .before .before .before))
+
+loop-less : tie.Need-loop-less Inv-loop μ-loop
+loop-less c = omega (arith, some (c .before .before .before .before .before .before .before .before .before .before))
+
+loop-again : tie.Need-loop-again Inv-loop μ-loop
+loop-again c =
+    let k = c .before .before .before .before .read-once .kept in
+    let i = c .before .before .before .before .before .before .before .before .before .before .before .before .loop .inv in
+    (omega (arith, k .1 .1 .0, i .0), omega (arith, k .1 .1 .1 .0, i .1), omega (arith, k .1 .0, i .2), omega (arith, k .1 .1 .1 .1 .0, i .3))
+
+returns : tie.Need-returns Inv-loop μ-loop
+returns c = tt
+
+pub main-spec : {M : Type 1} → statement M
+main-spec =
+    tie.close
+    (tie.spec
+    Inv-loop
+    μ-loop
+    buffer-requires
+    start-requires
+    loop-holds
+    slice-aggregate-read-once
+    slice-aggregate-read-once-2
+    slice-aggregate-read-once-3
+    slice-aggregate-read-once-4
+    read-once-requires
+    sub-turns
+    loop-less
+    loop-again
+    returns)
