@@ -51,6 +51,14 @@ fn close(state: State, filled: &mut [bool], amounts: &mut [i64], out: &mut [u8])
     io::write_all(1, &out[..finished.written]);
 }
 
+// A read or a write that failed leaves the output without its last line, the total.
+fn say_failed() {
+    io::write_all(
+        2,
+        b"ledger: a read or a write failed, so there is no total\n",
+    );
+}
+
 fn main() {
     let mut filled = [false; 744];
     let mut amounts = [0i64; 744];
@@ -68,8 +76,10 @@ fn main() {
         now = read_once(state, &mut input, &mut filled, &mut amounts, &mut out);
         turns -= 1;
     }
-    if !now.failed {
-        let state = now.state;
-        close(state, &mut filled, &mut amounts, &mut out);
+    if now.failed {
+        say_failed();
+        return;
     }
+    let state = now.state;
+    close(state, &mut filled, &mut amounts, &mut out);
 }

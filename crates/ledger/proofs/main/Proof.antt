@@ -59,6 +59,12 @@ loop-again c =
     let i = c .before .before .before .before .before .before .before .before .before .before .before .before .loop .inv in
     (omega (arith, k .1 .1 .0, i .0), omega (arith, k .1 .1 .1 .0, i .1), omega (arith, k .1 .0, i .2), omega (arith, k .1 .1 .1 .1 .0, i .3))
 
+say-failed-requires : tie.Need-say-failed-requires Inv-loop μ-loop
+say-failed-requires c κs = tt
+
+returns : tie.Need-returns Inv-loop μ-loop
+returns c = tt
+
 slice-aggregate-close : tie.Need-slice-aggregate-close Inv-loop μ-loop
 slice-aggregate-close c = omega arith
 
@@ -70,9 +76,6 @@ slice-aggregate-close-3 c = omega arith
 
 close-requires : tie.Need-close-requires Inv-loop μ-loop
 close-requires c κs = tt
-
-returns : tie.Need-returns Inv-loop μ-loop
-returns c = tt
 
 returns-2 : tie.Need-returns-2 Inv-loop μ-loop
 returns-2 c = tt
@@ -95,9 +98,10 @@ main-spec =
     sub-turns
     loop-less
     loop-again
+    say-failed-requires
+    returns
     slice-aggregate-close
     slice-aggregate-close-2
     slice-aggregate-close-3
     close-requires
-    returns
     returns-2)
