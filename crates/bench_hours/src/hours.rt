@@ -1,0 +1,118 @@
+// The hours, one after the other. Before each, one power is drawn anew, so that no hour is the one before.
+use crate::readings;
+use crate::sums;
+use hour::Settlement;
+use hour::Terms;
+use units::Kilowatts;
+
+// Document 01's list S.
+const THRESHOLDS: [i64; 7] = [95, 94, 93, 92, 91, 70, 0];
+
+const FACTORS: [i64; 7] = [10, 8, 6, 4, 2, 0, -10];
+
+// Hundredths of a dollar.
+const CLEARING: i64 = 44_000;
+
+const PERFORMANCE: i64 = 35_000;
+
+fn terms_of(capacity: u64, targets: [i64; 5]) -> Terms {
+    Terms {
+        capacity: Kilowatts((capacity % 1_000_000) as i64),
+        clearing: CLEARING,
+        performance: PERFORMANCE,
+        discharge: 50_000,
+        charge: 30_000,
+        targets: targets,
+    }
+}
+
+fn settled(
+    shifting: bool,
+    powers: &[i64],
+    frequencies: &[i64],
+    terms: Terms,
+    scores: &mut [u8],
+) -> Settlement {
+    if shifting {
+        return hour::hour(powers, frequencies, terms, &THRESHOLDS, &FACTORS, scores);
+    }
+    hour::dreg_hour(
+        powers,
+        frequencies,
+        terms.capacity,
+        CLEARING,
+        PERFORMANCE,
+        &THRESHOLDS,
+        &FACTORS,
+        scores,
+    )
+}
+
+// The check sum with an hour more.
+fn with_hour(
+    sum: u64,
+    shifting: bool,
+    powers: &[i64],
+    frequencies: &[i64],
+    terms: Terms,
+    scores: &mut [u8],
+) -> u64 {
+    let s = settled(shifting, powers, frequencies, terms, scores);
+    sums::with_settlement(sum, s)
+}
+
+fn redraw(powers: &mut [i64], n: u64, x: u64, capacity: u64, targets: &[i64]) {
+    let place = (n % 3600) as usize;
+    if place < powers.len() {
+        let p = readings::drawn(place, x, capacity, targets);
+        powers[place] = p;
+    }
+}
+
+fn hours(
+    shifting: bool,
+    powers: &mut [i64],
+    frequencies: &[i64],
+    capacity: u64,
+    terms: Terms,
+    scores: &mut [u8],
+    count: u64,
+) -> u64 {
+    let mut x = 2;
+    let mut sum = 0;
+    let mut n = 0;
+    while n < count {
+        x = readings::next(x);
+        redraw(powers, n, x, capacity, &terms.targets);
+        sum = with_hour(sum, shifting, powers, frequencies, terms, scores);
+        n += 1;
+    }
+    sums::with_scores(sum, scores)
+}
+
+fn run(shifting: bool, capacity: u64, targets: [i64; 5], count: u64) -> u64 {
+    let mut powers = [0; 3600];
+    let mut frequencies = [0; 3600];
+    let mut scores = [0u8; 3600];
+    readings::fill_powers(&mut powers, capacity, &targets);
+    readings::fill_frequencies(&mut frequencies);
+    hours(
+        shifting,
+        &mut powers,
+        &frequencies,
+        capacity,
+        terms_of(capacity, targets),
+        &mut scores,
+        count,
+    )
+}
+
+// No transfer.
+pub fn dreg(capacity: u64, count: u64) -> u64 {
+    run(false, capacity, [0; 5], count)
+}
+
+// Every quarter ramps, up and down.
+pub fn edreg(capacity: u64, count: u64) -> u64 {
+    run(true, capacity, [2_000, -3_000, 5_000, -8_000, 4_000], count)
+}
