@@ -16,3 +16,14 @@ pub fn number(x: i64) {
 pub fn end() {
     io::write_all(1, b"\n");
 }
+
+// A refusal, as a number of the line.
+pub fn refusal(k: u8) {
+    number(k as i64);
+}
+
+// A count, with a space before it.
+pub fn count(n: u64) {
+    io::write_all(1, b" ");
+    io::print_decimal(1, n);
+}

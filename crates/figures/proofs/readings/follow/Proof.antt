@@ -1,0 +1,56 @@
+-- `follow` is safe and ends: each turn passes a second of the run, which stays as long as it was. Assumes nothing.
+use mathlib.Core.Path.{_≡_}
+use Prim.Native.Nat.{_-_}
+use lib.ListN.{length, length-set}
+use borrow.Author.Needs.{needs}
+use Rattle.figures.proofs.readings.follow.Statement.{statement}
+use Rattle.figures.proofs.readings.follow.Tie as tie
+
+abbrev Inv-loop : tie.InvT-loop
+Inv-loop run₀ targets i₀ run i = length run ≡ length run₀
+
+abbrev μ-loop : tie.MeasureT-loop
+μ-loop run₀ targets i₀ run i = length run₀ - i
+
+loop-holds : tie.Need-loop-holds Inv-loop μ-loop
+loop-holds c = search needs
+
+transfer-at-requires : tie.Need-transfer-at-requires Inv-loop μ-loop
+transfer-at-requires c κs = search needs
+
+mul-power : tie.Need-mul-power Inv-loop μ-loop
+mul-power c = search needs
+
+slice-set-from-power : tie.Need-slice-set-from-power Inv-loop μ-loop
+slice-set-from-power c = search needs
+
+add-i : tie.Need-add-i Inv-loop μ-loop
+add-i c = search needs
+
+loop-less : tie.Need-loop-less Inv-loop μ-loop
+loop-less c = search needs
+
+loop-again : tie.Need-loop-again Inv-loop μ-loop
+loop-again c = search (needs, length-set)
+
+same-length : tie.Need-same-length Inv-loop μ-loop
+same-length c = search needs
+
+returns : tie.Need-returns Inv-loop μ-loop
+returns c = search needs
+
+pub follow-spec : {M : Type 1} → statement M
+follow-spec =
+    tie.close
+    (tie.spec
+    Inv-loop
+    μ-loop
+    loop-holds
+    transfer-at-requires
+    mul-power
+    slice-set-from-power
+    add-i
+    loop-less
+    loop-again
+    same-length
+    returns)

@@ -1,0 +1,88 @@
+// Made-up runs, each by a small rule, and a check sum over a run.
+const MODULUS: u64 = 4_294_967_296;
+
+fn chosen(taken: bool, value: i64, old: i64) -> i64 {
+    if taken { value } else { old }
+}
+
+// The same value from a place on, up to another or the run's end.
+pub fn stretch(run: &mut [i64], from: usize, to: usize, value: i64) {
+    let mut i = from;
+    while i < run.len() {
+        let old = run[i];
+        let x = chosen(i < to, value, old);
+        run[i] = x;
+        i += 1;
+    }
+}
+
+fn chosen_score(taken: bool, score: u8, old: u8) -> u8 {
+    if taken { score } else { old }
+}
+
+pub fn score_stretch(run: &mut [u8], from: usize, to: usize, score: u8) {
+    let mut i = from;
+    while i < run.len() {
+        let old = run[i];
+        let x = chosen_score(i < to, score, old);
+        run[i] = x;
+        i += 1;
+    }
+}
+
+// The planned transfer of each second.
+pub fn follow(run: &mut [i64], targets: &[i64]) {
+    let mut i = 0;
+    while i < run.len() {
+        let planned = ramp::transfer_at(targets, i);
+        let power = planned.0;
+        run[i] = power;
+        i += 1;
+    }
+}
+
+// A frequency from 59,700 to 60,300.
+fn wavering_at(i: usize) -> i64 {
+    (59_700 + i % 3_600 * 37 % 601) as i64
+}
+
+// Frequencies over the whole curve.
+pub fn waver(run: &mut [i64]) {
+    let mut i = 0;
+    while i < run.len() {
+        let frequency = wavering_at(i);
+        run[i] = frequency;
+        i += 1;
+    }
+}
+
+// The sum with one number more; the order of the numbers counts.
+fn mixed(sum: u64, number: u64) -> u64 {
+    (sum % MODULUS * 31 + number % MODULUS) % MODULUS
+}
+
+pub fn check_sum(run: &[i64]) -> u64 {
+    let mut sum = 0;
+    let mut i = 0;
+    while i < run.len() {
+        let x = run[i];
+        sum = mixed(mixed(sum, (x < 0) as u64), whole::size(x));
+        i += 1;
+    }
+    sum
+}
+
+fn with_score(sum: u64, score: u8) -> u64 {
+    mixed(sum, score as u64)
+}
+
+pub fn score_sum(run: &[u8]) -> u64 {
+    let mut sum = 0;
+    let mut i = 0;
+    while i < run.len() {
+        let x = run[i];
+        sum = with_score(sum, x);
+        i += 1;
+    }
+    sum
+}

@@ -1,0 +1,126 @@
+// A second's score and an hour's rate.
+use crate::readings;
+use crate::text;
+use units::Kilowatts;
+use units::Millihertz;
+
+// Power, transfer, capacity and frequency, then refusal and score.
+fn show(power: i64, transfer: i64, capacity: i64, frequency: i64) {
+    let s = score::second_score(
+        Kilowatts(power),
+        Kilowatts(transfer),
+        Kilowatts(capacity),
+        Millihertz(frequency),
+    );
+    io::write_all(1, b"second");
+    text::number(power);
+    text::number(transfer);
+    text::number(capacity);
+    text::number(frequency);
+    text::refusal(s.refusal);
+    text::refusal(s.score);
+    text::end();
+}
+
+// Document 001, example 2, and halves of a percent on either side.
+pub fn seconds() {
+    text::heading(b"document 001, example 2: a second's score");
+    show(4_300, 0, 10_000, 59_900);
+    show(3_500, 0, 10_000, 59_900);
+    show(3_849, 0, 10_000, 59_900);
+    show(3_850, 0, 10_000, 59_900);
+    show(3_150, 0, 10_000, 59_900);
+    show(3_149, 0, 10_000, 59_900);
+    show(-3_150, 0, 10_000, 60_080);
+    show(-3_149, 0, 10_000, 60_080);
+    show(7_300, 3_000, 10_000, 59_900);
+    show(500, -3_000, 10_000, 59_900);
+    show(13_800, 0, 10_000, 59_900);
+    show(13_700, 0, 10_000, 59_900);
+    show(-200_000, 100_000, 1, 59_750);
+}
+
+pub fn limits() {
+    text::heading(b"scores at and past the limits");
+    show(200_000, 100_000, 100_000, 55_000);
+    show(-200_000, -100_000, 1, 65_000);
+    show(0, 0, 0, 60_000);
+    show(0, 0, 100_001, 60_000);
+    show(0, 100_001, 1, 60_000);
+    show(0, -100_001, 1, 60_000);
+    show(200_001, 0, 1, 60_000);
+    show(-200_001, 0, 1, 60_000);
+    show(0, 0, 1, 54_999);
+    show(0, 0, 1, 65_001);
+    show(200_001, 100_001, 0, 54_999);
+    show(200_001, 100_001, 1, 54_999);
+    show(200_001, 100_000, 1, 54_999);
+    show(i64::MIN, i64::MIN, i64::MIN, i64::MIN);
+    show(i64::MAX, i64::MAX, 1, i64::MAX);
+    show(i64::MIN, 0, 1, 60_000);
+    show(0, 0, 1, i64::MAX);
+}
+
+// The score at a place, and 0 past the end.
+fn at(pattern: &[u8], place: usize) -> u8 {
+    if place < pattern.len() {
+        return pattern[place];
+    }
+    0
+}
+
+// The eleven scores of table 2 over and over.
+fn repeat(pattern: &[u8], scores: &mut [u8]) {
+    let mut i = 0;
+    while i < scores.len() {
+        let score = at(pattern, i % 11);
+        scores[i] = score;
+        i += 1;
+    }
+}
+
+fn rate(label: &[u8], scores: &[u8]) {
+    let r = score::hourly_rate(scores);
+    io::write_all(1, label);
+    text::refusal(r.refusal);
+    text::refusal(r.rate);
+    text::end();
+}
+
+// An hour of 100 with one score from a place on, up to another.
+fn stumble(label: &[u8], scores: &mut [u8], from: usize, to: usize, score: u8) {
+    readings::score_stretch(scores, 0, 3_600, 100);
+    readings::score_stretch(scores, from, to, score);
+    rate(label, scores);
+}
+
+fn stumbles(scores: &mut [u8]) {
+    stumble(b"steady", scores, 0, 0, 0);
+    stumble(b"three zeros", scores, 1_000, 1_003, 0);
+    stumble(b"four zeros", scores, 1_000, 1_004, 0);
+    stumble(b"four at 94", scores, 2_000, 2_004, 94);
+}
+
+fn stumbles_at_the_ends(scores: &mut [u8]) {
+    stumble(b"a zero first", scores, 0, 1, 0);
+    stumble(b"three at 70 last", scores, 3_597, 3_600, 70);
+    stumble(b"four at 70 last", scores, 3_596, 3_600, 70);
+    stumble(b"a score of 101", scores, 3_599, 3_600, 101);
+    stumble(b"a score of 255", scores, 0, 1, 255);
+}
+
+pub fn rates() {
+    text::heading(b"document 001, table 2: rolling rates and the hourly rate");
+    let mut scores = [0u8; 3600];
+    let eleven = [100u8, 90, 50, 90, 90, 70, 95, 100, 100, 60, 100];
+    repeat(&eleven, &mut scores);
+    rate(b"table 2 over and over", &scores);
+    stumbles(&mut scores);
+    stumbles_at_the_ends(&mut scores);
+    let short = [100u8; 3599];
+    rate(b"3,599 scores", &short);
+    let long = [101u8; 3601];
+    rate(b"3,601 scores of 101", &long);
+    let none = [0u8; 0];
+    rate(b"no score", &none);
+}
