@@ -710,6 +710,9 @@ for label, start, stop, r in [
     assert dreg(label, but(3500, start, stop, 4500), [59900] * 3600)[1] == r
 for label, start in [("in its place", 1000), ("a second late", 1001)]:
     dreg(label, but(0, 1000, 1004, 10000), but(60000, start, 1004, 59750))
+turns = [59750, 60250] * 1800
+assert dreg("alternating", [10000, -10000] * 1800, turns)[1] == 100
+assert dreg("alternating, a second late", [-10000, 10000] * 1800, turns)[1] == 0
 level("tie 59,920 above", 3100, 59920)
 level("tie 59,920 past", 3200, 59920)
 level("tie 59,920 below", 2100, 59920)
@@ -719,6 +722,7 @@ level("tie 60,080 below", -3200, 60080)
 level("most power", 200000, 55000)
 level("least power", -200000, 65000)
 level("a power above", 200001, 60000)
+level("a power below", -200001, 60000)
 level("a frequency below", 0, 54999)
 
 line("E-dReg hours")
@@ -738,6 +742,14 @@ for label, frequencies, followed, plan in [
 ]:
     work(label, transfers(followed), frequencies, terms_of(plan))
 
+for label, power, f, target in [
+    ("most", 200000, 55000, 10**5),
+    ("most, the other way", 200000, 55000, -(10**5)),
+    ("least", -200000, 65000, -(10**5)),
+    ("least, the other way", -200000, 65000, 10**5),
+]:
+    work(label, [power] * 3600, [f] * 3600, (10**5, 10**7, 10**7, 10**7, 10**7, [target] * 5))
+
 line("refused hours: 1, 2, 3, 5, 10, 4 in this order")
 
 
@@ -750,6 +762,7 @@ zeros, short = [0] * 3600, [200001] * 3599
 high = but(0, 3599, 3600, 200001)
 attempt("none", 0, zeros, still, 10000, 50000, 10, 0)
 attempt("at the limits", 0, zeros, still, 100000, 10**7, -240, -100000)
+attempt("least factor", 0, zeros, still, 10000, 50000, -240, 0)
 attempt("least capacity", 0, zeros, still, 1, 0, 10, 100000)
 attempt("capacity 0", 2, zeros, still, 0, 50000, 10, 0)
 attempt("capacity above", 2, zeros, still, 100001, 50000, 10, 0)

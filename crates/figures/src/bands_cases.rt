@@ -12,8 +12,8 @@ pub fn list_s(rate: u8) -> Factored {
 fn show(rate: u8) {
     let f = list_s(rate);
     io::write_all(1, b"rate");
-    text::refusal(rate);
-    text::refusal(f.refusal);
+    text::byte(rate);
+    text::byte(f.refusal);
     text::number(f.factor);
     text::end();
 }
@@ -38,12 +38,12 @@ pub fn rates() {
 // A list: its check, then the answers for rates 95 and 101.
 fn list(label: &[u8], thresholds: &[i64], factors: &[i64]) {
     io::write_all(1, label);
-    text::refusal(bands::check(thresholds, factors));
+    text::byte(bands::check(thresholds, factors));
     let f = bands::factor(thresholds, factors, 95);
-    text::refusal(f.refusal);
+    text::byte(f.refusal);
     text::number(f.factor);
     let f = bands::factor(thresholds, factors, 101);
-    text::refusal(f.refusal);
+    text::byte(f.refusal);
     text::number(f.factor);
     text::end();
 }

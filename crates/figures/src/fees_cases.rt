@@ -7,7 +7,7 @@ use units::Kilowatts;
 
 fn answer(c: Charged) {
     let dollars = c.dollars;
-    text::refusal(c.refusal);
+    text::byte(c.refusal);
     text::number(dollars.0);
     text::end();
 }
@@ -131,7 +131,7 @@ fn loss(charged: i64, discharged: i64, voltage: i64, cost: i64) {
     text::number(discharged);
     text::number(voltage);
     text::number(cost);
-    text::refusal(l.refusal);
+    text::byte(l.refusal);
     text::number(basic.0);
     text::number(excess.0);
     text::number(total.0);

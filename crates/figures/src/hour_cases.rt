@@ -25,8 +25,8 @@ pub fn settlement(label: &[u8], s: Settlement) {
     let energy = s.energy;
     let amount = s.amount;
     io::write_all(1, label);
-    text::refusal(s.refusal);
-    text::refusal(s.rate);
+    text::byte(s.refusal);
+    text::byte(s.rate);
     text::number(s.factor);
     text::number(capacity.0);
     text::number(performance.0);
@@ -93,6 +93,13 @@ fn late(label: &[u8], powers: &mut [i64], frequencies: &mut [i64], from: usize) 
     dreg(label, powers, frequencies);
 }
 
+// Frequency and power change every second: a power that is judged by another second's frequency scores 0.
+fn alternate(label: &[u8], powers: &mut [i64], frequencies: &mut [i64], even: i64, odd: i64) {
+    readings::alternate(frequencies, 59_750, 60_250);
+    readings::alternate(powers, even, odd);
+    dreg(label, powers, frequencies);
+}
+
 fn stumbles(powers: &mut [i64], frequencies: &mut [i64]) {
     level(b"steady", powers, frequencies, 3_500, 59_900);
     stumble(
@@ -125,6 +132,7 @@ fn limits(powers: &mut [i64], frequencies: &mut [i64]) {
     level(b"most power", powers, frequencies, 200_000, 55_000);
     level(b"least power", powers, frequencies, -200_000, 65_000);
     level(b"a power above", powers, frequencies, 200_001, 60_000);
+    level(b"a power below", powers, frequencies, -200_001, 60_000);
     level(b"a frequency below", powers, frequencies, 0, 54_999);
 }
 
@@ -135,6 +143,20 @@ pub fn dreg_hours() {
     stumbles(&mut powers, &mut frequencies);
     late(b"in its place", &mut powers, &mut frequencies, 1_000);
     late(b"a second late", &mut powers, &mut frequencies, 1_001);
+    alternate(
+        b"alternating",
+        &mut powers,
+        &mut frequencies,
+        10_000,
+        -10_000,
+    );
+    alternate(
+        b"alternating, a second late",
+        &mut powers,
+        &mut frequencies,
+        -10_000,
+        10_000,
+    );
     tie_below(&mut powers, &mut frequencies);
     tie_above(&mut powers, &mut frequencies);
     limits(&mut powers, &mut frequencies);
@@ -183,6 +205,52 @@ fn wavering_shifts(powers: &mut [i64], frequencies: &[i64]) {
     );
 }
 
+// Capacity and prices at their limits, and one target throughout.
+fn most(target: i64) -> Terms {
+    Terms {
+        capacity: Kilowatts(100_000),
+        clearing: 10_000_000,
+        performance: 10_000_000,
+        discharge: 10_000_000,
+        charge: 10_000_000,
+        targets: [target, target, target, target, target],
+    }
+}
+
+fn extreme(
+    label: &[u8],
+    powers: &mut [i64],
+    frequencies: &mut [i64],
+    power: i64,
+    frequency: i64,
+    target: i64,
+) {
+    readings::stretch(powers, 0, 3_600, power);
+    readings::stretch(frequencies, 0, 3_600, frequency);
+    shift(label, powers, frequencies, most(target));
+}
+
+fn extremes(powers: &mut [i64], frequencies: &mut [i64]) {
+    extreme(b"most", powers, frequencies, 200_000, 55_000, 100_000);
+    extreme(
+        b"most, the other way",
+        powers,
+        frequencies,
+        200_000,
+        55_000,
+        -100_000,
+    );
+    extreme(b"least", powers, frequencies, -200_000, 65_000, -100_000);
+    extreme(
+        b"least, the other way",
+        powers,
+        frequencies,
+        -200_000,
+        65_000,
+        100_000,
+    );
+}
+
 pub fn shift_hours() {
     text::heading(b"E-dReg hours");
     let mut powers = [0i64; 3600];
@@ -190,4 +258,5 @@ pub fn shift_hours() {
     shifts(&mut powers, &frequencies);
     readings::waver(&mut frequencies);
     wavering_shifts(&mut powers, &frequencies);
+    extremes(&mut powers, &mut frequencies);
 }

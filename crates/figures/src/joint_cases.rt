@@ -11,11 +11,11 @@ fn ledger(m: Month, day: u8, hour: u8) {
     let t = m.total();
     let total = t.amount;
     let s = m.standing();
-    text::refusal(h.refusal);
+    text::byte(h.refusal);
     text::number(amount.0);
-    text::refusal(t.refusal);
+    text::byte(t.refusal);
     text::number(total.0);
-    text::refusal(s.refusal);
+    text::byte(s.refusal);
     text::count(s.hours as u64);
     text::end();
 }

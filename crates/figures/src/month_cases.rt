@@ -51,14 +51,14 @@ fn settle(m: Month, award: Award, energy: Dollars) -> Month {
     let amount = amount_of(quality, energy);
     let b = m.post(award.day, award.hour, amount);
     io::write_all(1, b"hour");
-    text::refusal(award.hour);
+    text::byte(award.hour);
     text::number(capacity.0);
     text::number(performance.0);
-    text::refusal(award.rate);
+    text::byte(award.rate);
     text::number(factor);
     text::number(energy.0);
     text::number(amount.0);
-    text::refusal(b.refusal);
+    text::byte(b.refusal);
     text::end();
     b.month
 }
@@ -67,8 +67,8 @@ fn day(m: Month, day: u8) {
     let d = m.day(day);
     let sum = d.amount;
     io::write_all(1, b"day");
-    text::refusal(day);
-    text::refusal(d.refusal);
+    text::byte(day);
+    text::byte(d.refusal);
     text::number(sum.0);
     text::end();
 }
@@ -80,8 +80,8 @@ fn total(m: Month, fee: i64) {
     let t = after.total();
     let sum = t.amount;
     io::write_all(1, b"total");
-    text::refusal(b.refusal);
-    text::refusal(t.refusal);
+    text::byte(b.refusal);
+    text::byte(t.refusal);
     text::number(sum.0);
     text::end();
 }

@@ -38,7 +38,7 @@ fn rows(run: &[i64]) {
 fn fill(label: &[u8], last: i64, target: i64, run: &mut [i64]) {
     let k = ramp::ramp(Kilowatts(last), Kilowatts(target), run);
     io::write_all(1, label);
-    text::refusal(k);
+    text::byte(k);
     text::count(readings::check_sum(run));
     text::end();
 }

@@ -56,6 +56,20 @@ pub fn waver(run: &mut [i64]) {
     }
 }
 
+fn alternating_at(i: usize, even: i64, odd: i64) -> i64 {
+    if i % 2 == 0 { even } else { odd }
+}
+
+// Two values by turns.
+pub fn alternate(run: &mut [i64], even: i64, odd: i64) {
+    let mut i = 0;
+    while i < run.len() {
+        let x = alternating_at(i, even, odd);
+        run[i] = x;
+        i += 1;
+    }
+}
+
 // The sum with one number more; the order of the numbers counts.
 fn mixed(sum: u64, number: u64) -> u64 {
     (sum % MODULUS * 31 + number % MODULUS) % MODULUS

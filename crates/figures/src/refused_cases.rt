@@ -44,8 +44,8 @@ fn worked(
     text::end();
 }
 
-// One fault at a time.
-fn single(powers: &[i64], frequencies: &[i64]) {
+// Nothing is refused.
+fn at_the_limits(powers: &[i64], frequencies: &[i64]) {
     attempt(b"none", powers, frequencies, 10_000, 50_000, 10, 0);
     attempt(
         b"at the limits",
@@ -56,7 +56,20 @@ fn single(powers: &[i64], frequencies: &[i64]) {
         -240,
         -100_000,
     );
+    attempt(
+        b"least factor",
+        powers,
+        frequencies,
+        10_000,
+        50_000,
+        -240,
+        0,
+    );
     attempt(b"least capacity", powers, frequencies, 1, 0, 10, 100_000);
+}
+
+// One fault at a time.
+fn single(powers: &[i64], frequencies: &[i64]) {
     attempt(b"capacity 0", powers, frequencies, 0, 50_000, 10, 0);
     attempt(
         b"capacity above",
@@ -148,6 +161,7 @@ fn short_scores(powers: &[i64], frequencies: &[i64]) {
 
 fn faults(powers: &mut [i64], frequencies: &mut [i64]) {
     readings::stretch(frequencies, 0, 3_600, 60_000);
+    at_the_limits(powers, frequencies);
     single(powers, frequencies);
     short_scores(powers, frequencies);
     readings::stretch(powers, 3_599, 3_600, 200_001);

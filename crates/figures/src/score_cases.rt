@@ -17,8 +17,8 @@ fn show(power: i64, transfer: i64, capacity: i64, frequency: i64) {
     text::number(transfer);
     text::number(capacity);
     text::number(frequency);
-    text::refusal(s.refusal);
-    text::refusal(s.score);
+    text::byte(s.refusal);
+    text::byte(s.score);
     text::end();
 }
 
@@ -82,8 +82,8 @@ fn repeat(pattern: &[u8], scores: &mut [u8]) {
 fn rate(label: &[u8], scores: &[u8]) {
     let r = score::hourly_rate(scores);
     io::write_all(1, label);
-    text::refusal(r.refusal);
-    text::refusal(r.rate);
+    text::byte(r.refusal);
+    text::byte(r.rate);
     text::end();
 }
 

@@ -17,9 +17,9 @@ pub fn end() {
     io::write_all(1, b"\n");
 }
 
-// A refusal, as a number of the line.
-pub fn refusal(k: u8) {
-    number(k as i64);
+// A byte's number: a refusal, a rate, an hour.
+pub fn byte(x: u8) {
+    number(x as i64);
 }
 
 // A count, with a space before it.
