@@ -68,7 +68,7 @@ fn at_the_limits(powers: &[i64], frequencies: &[i64]) {
     attempt(b"least capacity", powers, frequencies, 1, 0, 10, 100_000);
 }
 
-// One fault at a time.
+// One fault at a time, in the capacity and the prices; then in the bands and the targets.
 fn single(powers: &[i64], frequencies: &[i64]) {
     attempt(b"capacity 0", powers, frequencies, 0, 50_000, 10, 0);
     attempt(
@@ -90,6 +90,9 @@ fn single(powers: &[i64], frequencies: &[i64]) {
         0,
     );
     attempt(b"price below", powers, frequencies, 10_000, -1, 10, 0);
+}
+
+fn single_in_bands_and_targets(powers: &[i64], frequencies: &[i64]) {
     attempt(b"factor 11", powers, frequencies, 10_000, 50_000, 11, 0);
     attempt(
         b"target above",
@@ -163,6 +166,7 @@ fn faults(powers: &mut [i64], frequencies: &mut [i64]) {
     readings::stretch(frequencies, 0, 3_600, 60_000);
     at_the_limits(powers, frequencies);
     single(powers, frequencies);
+    single_in_bands_and_targets(powers, frequencies);
     short_scores(powers, frequencies);
     readings::stretch(powers, 3_599, 3_600, 200_001);
     several(powers, frequencies);
