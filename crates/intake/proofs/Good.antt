@@ -1,18 +1,18 @@
 -- The program's ledger is one that calls from a fresh month have left: so its total is the month total, and what it answers is what the ledger's
 -- calls by value answer. By induction on the lines. Assumes nothing.
-use Prim.Native.Nat.{ℕ}
-use mathlib.Core.Path.{_≡_, ap}
+use Prim.Native.Nat.{ℕ, _≤_}
+use mathlib.Core.Path.{_≡_, refl, ap, ap₂, _∙_}
 use mathlib.Core.Bool.{true, false, not}
-use mathlib.Core.List.{List, [], _∷_}
+use mathlib.Core.List.{List, [], _∷_, _++_}
 use lib.Dec.{eqb, ltb}
 use lib.IntN.{ℤ, pos, _-ℤ_}
 use Rattle.whole.specs.Whole.{inRange}
 use Rattle.whole.proofs.Choice.{by-test, clash, passed, kept-any}
 use Rattle.history.specs.Rules.{Call}
-use Rattle.history.specs.Board.{Board, fresh, rulingOn, handed, refusalOf, totalOn}
+use Rattle.history.specs.Board.{Board, fresh, wellFormed, rulingOn, handed, refusalOf, nextOf, totalOn}
 use Rattle.history.proofs.Board.{Good, good-well, fresh-good}
 use Rattle.history.proofs.Steps.{effect}
-use Rattle.month.specs.Month.{isDays, monthRules, monthOf, answerOf}
+use Rattle.month.specs.Month.{isDays, monthRules, boardOf, monthOf, answerOf}
 use Rattle.month.proofs.Sound.{month-sound}
 use Rattle.month.proofs.Sums.{all-summed}
 use Rattle.frame.specs.Kinds.{openKind}
@@ -20,8 +20,9 @@ use Rattle.frame.specs.Frame.{readingOf}
 use Rattle.frame.specs.declared.Entry.{Entry}
 use Rattle.frame.specs.declared.Reading.{Reading}
 use Rattle.frame.specs.declared.Reading.the-variants.{Frame, Refused}
-use Rattle.intake.specs.Book.{Book, firstBook, callOf, openRefusal, openBook, callRefusal, callBook, frameBook, bookIn, mostLines, bookAfter, bookAfterAll, totalOf}
+use Rattle.intake.specs.Book.{Book, firstBook, callOf, openRefusal, openBook, callRefusal, callBook, frameBook, bookIn, mostLines, answersTo, bookAfter, bookAfterAll, totalOf}
 use Rattle.intake.specs.Desk.{settledIn, settled}
+use Rattle.intake.proofs.Calls.{answered-none}
 
 -- a month that was opened has 28 to 31 days and a ledger in form
 abbrev pub Kept : Book → Type 0
@@ -90,11 +91,27 @@ settled-total book k =
     rw (o, f) (ap (λ (z : ℤ). z -ℤ book .board .fee) (all-summed (monthOf (book .days) (book .board)) (g .1))))
     (λ (o : book .opened ≡ false). rw o)
 
--- ---- what the program answers to a call is what the ledger answers to it by value, 22 first
+-- ---- what the program answers to a call and keeps of it is what the ledger's call by value answers and hands back, 22 first
 
-pub answered-by-value : (book : Book) (c : Call ℤ) → Kept book → book .opened ≡ true
-    → callRefusal book c ≡ answerOf (monthOf (book .days) (book .board)) c .refusal
-unfolding callRefusal answerOf refusalOf
-answered-by-value book c k o =
-    let g = k o in
-    rw (o, good-well (monthRules (book .days)) (month-sound (book .days) (g .0)) (book .board) (g .1))
+module _ (book : Book) (c : Call ℤ) (k : Kept book) (o : book .opened ≡ true) where
+  well : wellFormed (monthRules (book .days)) (book .board) ≡ true
+  well = let g = k o in good-well (monthRules (book .days)) (month-sound (book .days) (g .0)) (book .board) (g .1)
+
+  pub answered-by-value : callRefusal book c ≡ answerOf (monthOf (book .days) (book .board)) c .refusal
+  unfolding callRefusal answerOf refusalOf
+  answered-by-value = rw (o, well)
+
+  pub handed-by-value : callBook book c .board ≡ boardOf (answerOf (monthOf (book .days) (book .board)) c .month)
+  unfolding callBook answerOf nextOf
+  handed-by-value = rw (o, well)
+
+-- ---- past the most lines nothing is answered and nothing changes: there the program stops reading
+
+pub ignored : (book : Book) (ls : List (List ℕ)) → mostLines ≤ book .count → (answersTo book ls ≡ []) × (bookAfterAll book ls ≡ book)
+ignored book [] h = (refl, refl)
+ignored book (l ∷ ls) h =
+    let n = answered-none book l h in
+    let i = ignored book ls h in (
+      ap₂ (λ (s : List ℕ) (b : Book). s ++ answersTo b ls) (n .0) (n .1) ∙ i .0,
+      ap (λ (b : Book). bookAfterAll b ls) (n .1) ∙ i .1,
+    )
