@@ -5,7 +5,8 @@ mod Cutting
 mod Calls
 mod Going
 mod Totals
-mod Good
-mod Transcript
-mod Contracts
+pub mod Demand
+pub mod Good
+pub mod Transcript
+pub mod Contracts
 mod Determined
