@@ -12,8 +12,8 @@ use Rattle.whole.proofs.Choice.{by-test, clash, passed}
 use borrow.Author.Tests.{eqb-true}
 use Rattle.history.specs.Rules.{Call}
 use Rattle.history.specs.Board.{rulingOn}
-use Rattle.history.specs.History.{Entry, totalIs}
-use Rattle.history.proofs.Steps.{Told, entry, start-told, next-told}
+use Rattle.history.specs.History.{Entry, Ruled, totalIs}
+use Rattle.history.proofs.Steps.{Told, entry, ruled, start-told, next-told}
 use Rattle.history.proofs.Readouts.{total-is}
 use Rattle.month.specs.Month.{isDays, monthRules}
 use Rattle.month.proofs.Sound.{month-sound}
@@ -45,10 +45,10 @@ abbrev pub historyAfter : Book → List (Entry ℤ) → List (List ℕ) → List
 historyAfter book h [] = h
 historyAfter book h (l ∷ ls) = historyAfter (bookAfter book l) (pick (ltb (book .count) mostLines) (historyIn book h (readingOf l)) h) ls
 
--- ---- the ledger tells it
+-- ---- the ledger tells it, and each call was answered as document 01 rules after those before it
 
 abbrev pub Tells : List (Entry ℤ) → Book → Type 0
-Tells h book = book .opened ≡ true → (isDays (book .days) ≡ true) × Told (monthRules (book .days)) h (book .board)
+Tells h book = book .opened ≡ true → (isDays (book .days) ≡ true) × Told (monthRules (book .days)) h (book .board) × Ruled (monthRules (book .days)) h
 
 call-tells : (book : Book) (h : List (Entry ℤ)) (c : Call ℤ) → Tells h book → Tells (callHistory book h c) (callBook book c)
 unfolding callBook
@@ -56,7 +56,7 @@ call-tells book h c k =
     by-test (book .opened)
     (λ (o : book .opened ≡ true).
     let g = k o in
-    rw o (λ _. (g .0, next-told (monthRules (book .days)) (month-sound (book .days) (g .0)) h (book .board) (g .1) c)))
+    rw o (λ _. (g .0, next-told (monthRules (book .days)) (month-sound (book .days) (g .0)) h (book .board) (g .1) c, (ruled (monthRules (book .days)) h (book .board) (g .1) c, g .2))))
     (λ (o : book .opened ≡ false). rw o (λ e. clash e))
 
 open-tells : (book : Book) (h : List (Entry ℤ)) (days : ℕ) → Tells h book → Tells (openHistory book h days) (openBook book days)
@@ -66,7 +66,7 @@ open-tells book h days k =
     (λ (t : eqb (openRefusal book days) 0 ≡ true).
     let p = passed (not (book .opened)) 13 _ (eqb-true (openRefusal book days) 0 t) in
     let d = passed (isDays days) 5 0 (p .1) .0 in
-    rw t (λ _. (d, start-told (monthRules days) (month-sound days d))))
+    rw t (λ _. (d, start-told (monthRules days) (month-sound days d), tt)))
     (λ (t : eqb (openRefusal book days) 0 ≡ false). rw t k)
 
 frame-tells : (book : Book) (h : List (Entry ℤ)) (e : Framed) → Tells h book → Tells (frameHistory book h e) (frameBook book e)
