@@ -45,10 +45,10 @@ fn read_once(
     }
 }
 
-// The answer to a last line without its end, and the total.
-fn close(state: State, filled: &mut [bool], amounts: &mut [i64], out: &mut [u8]) {
+// Writes the answer to a last line without its end, and the total.
+fn close(state: State, filled: &mut [bool], amounts: &mut [i64], out: &mut [u8]) -> bool {
     let finished = intake::finish(state, filled, amounts, out);
-    io::write_all(1, &out[..finished.written]);
+    io::write_all(1, &out[..finished.written])
 }
 
 // A read or a write that failed leaves the output without its last line, the total.
@@ -81,5 +81,7 @@ fn main() {
         return;
     }
     let state = now.state;
-    close(state, &mut filled, &mut amounts, &mut out);
+    if !close(state, &mut filled, &mut amounts, &mut out) {
+        say_failed();
+    }
 }

@@ -77,8 +77,14 @@ slice-aggregate-close-3 c = omega arith
 close-requires : tie.Need-close-requires Inv-loop μ-loop
 close-requires c κs = tt
 
+say-failed-requires-2 : tie.Need-say-failed-requires-2 Inv-loop μ-loop
+say-failed-requires-2 c κs = tt
+
 returns-2 : tie.Need-returns-2 Inv-loop μ-loop
 returns-2 c = tt
+
+returns-3 : tie.Need-returns-3 Inv-loop μ-loop
+returns-3 c = tt
 
 pub main-spec : {M : Type 1} → statement M
 main-spec =
@@ -104,4 +110,6 @@ main-spec =
     slice-aggregate-close-2
     slice-aggregate-close-3
     close-requires
-    returns-2)
+    say-failed-requires-2
+    returns-2
+    returns-3)
