@@ -4,13 +4,12 @@ use Prim.Native.Nat.{ℕ, _+_, _-_, _≤_, _<_, min}
 use mathlib.Core.Path.{_≡_, refl, sym, ap, _∙_}
 use mathlib.Core.Bool.{Bool, true, false}
 use native.Mathlib.Omega.{arith}
-use lib.Dec.{T, leb}
-use lib.IntN.{ℤ, pos, negsuc, natAbs}
-use lib.Signed.{nonNeg}
+use lib.Dec.{leb}
+use lib.IntN.{ℤ, pos, negsuc}
 use borrow.Author.Tests.{le-leb, lt-leb, leb-true, leb-false}
-use Rattle.whole.specs.Whole.{minus, inRange, nearest, withSign, halfUp}
-use Rattle.whole.proofs.Choice.{by-test, clash, and-both}
-use Rattle.curve.specs.Curve.{Corner, corner, bound, upperAt, lowerAt}
+use Rattle.whole.specs.Whole.{minus, up, down, nearest, withSign, halfUp}
+use Rattle.whole.proofs.Choice.{by-test}
+use Rattle.curve.specs.Curve.{Corner, corner, bound, upperAt, lowerAt, placeAt}
 
 -- the frequency of the place that a frequency is read at
 abbrev pub clip : ℕ → ℕ
@@ -55,16 +54,19 @@ module _ (percent : Corner → ℤ) (ends : Ends percent) where
       let e : clip f ≡ 60250 = omega arith in
       rw e (sym (after f g))))
 
-pub upper-clipped : (f : ℕ) → upperAt (pos (clip f)) ≡ upperAt (pos f)
-unfolding upperAt nearest withSign halfUp
-upper-clipped f = clipped (λ (c : Corner). c .upper) refl f
+-- the frequency of the place that a frequency is read at has its bounds
+pub upper-placed : (f : ℤ) → upperAt (pos (59750 + placeAt f)) ≡ upperAt f
+unfolding upperAt placeAt nearest withSign halfUp
+upper-placed (pos f) = clipped (λ (c : Corner). c .upper) refl f
+upper-placed (negsuc f) = refl
 
-pub lower-clipped : (f : ℕ) → lowerAt (pos (clip f)) ≡ lowerAt (pos f)
-unfolding lowerAt nearest withSign halfUp
-lower-clipped f = clipped (λ (c : Corner). c .lower) refl f
+pub lower-placed : (f : ℤ) → lowerAt (pos (59750 + placeAt f)) ≡ lowerAt f
+unfolding lowerAt placeAt nearest withSign halfUp
+lower-placed (pos f) = clipped (λ (c : Corner). c .lower) refl f
+lower-placed (negsuc f) = refl
 
--- a number in a range of natural numbers is one
-pub natural : (low high : ℕ) (z : ℤ) → inRange (pos low) (pos high) z ≡ true → T (nonNeg z) × (pos (natAbs z) ≡ z)
-unfolding inRange
-natural low high (pos a) e = (tt, refl)
-natural low high (negsuc a) e = clash e
+-- the place, as `omega` reads it
+pub placed : (f : ℤ) → placeAt f ≡ min ((up f - down f) - 59750) 500
+unfolding placeAt
+placed (pos f) = omega arith
+placed (negsuc f) = omega arith

@@ -1,17 +1,25 @@
 -- What crates above cite: a bound lies from -100 to 100 percent, whatever frequency is handed in. Once for both bounds: at the 501 frequencies of the table by computing
 -- them, and outside by the level ends. Assumes nothing.
-use Prim.Native.Nat.{ℕ, _+_, _-_, min}
-use mathlib.Core.Path.{_≡_, refl}
+use Prim.Native.Nat.{ℕ, _+_, _-_, _<_, min}
+use mathlib.Core.Path.{_≡_, refl, _∙_}
 use mathlib.Core.Bool.{true}
 use native.Mathlib.Omega.{arith}
 use lib.IntN.{ℤ, pos, negsuc}
+use lib.ListN.{length, getD}
+use lib.Signed.{leZ}
 use Rattle.whole.specs.Folds.{foldTo, allTo}
 use Rattle.whole.specs.Whole.{minus, Within, inRange, nearest, withSign, halfUp}
 use Rattle.whole.proofs.Folds.{all-at}
+use Rattle.whole.proofs.Runs.{length-listed, getD-listed}
 use Rattle.whole.proofs.Sums.{in-within}
 use Rattle.units.specs.declared.Millihertz.{Millihertz}
-use Rattle.curve.specs.Curve.{Corner, bound, upperAt, lowerAt, boundsAt, curveAt}
-use Rattle.curve.proofs.Laws.{Ends, clip, clipped}
+use Rattle.curve.specs.Curve.{Corner, bound, upperAt, lowerAt, boundsAt, curveAt, uppersOf, lowersOf, placeAt}
+use Rattle.curve.proofs.Laws.{Ends, clip, clipped, upper-placed, lower-placed}
+
+pub place-within : (f : ℤ) → placeAt f < 501
+unfolding placeAt
+place-within (pos f) = omega arith
+place-within (negsuc f) = omega arith
 
 -- the bound at each of the table's frequencies is a percent
 abbrev Percents : (Corner → ℤ) → Type 0
@@ -33,6 +41,36 @@ pub lower-within : (f : ℤ) → Within 100 (lowerAt f)
 unfolding lowerAt nearest withSign halfUp inRange foldTo
 lower-within (pos f) = natural-within (λ (c : Corner). c .lower) refl refl f
 lower-within (negsuc f) = omega arith
+
+-- the lower bound is never above the upper one
+ordered : (f : ℕ) → leZ (lowerAt (pos f)) (upperAt (pos f)) ≡ true
+unfolding upperAt lowerAt nearest withSign halfUp foldTo
+ordered f =
+    let table : allTo 501 (λ k. leZ (lowerAt (pos (59750 + k))) (upperAt (pos (59750 + k)))) ≡ true = refl in
+    let e = all-at 501 (λ k. leZ (lowerAt (pos (59750 + k))) (upperAt (pos (59750 + k)))) table (placeAt (pos f)) (place-within (pos f)) in
+    rw (upper-placed (pos f), lower-placed (pos f)) at e
+
+pub bounds-ordered : (f : ℤ) → leZ (lowerAt f) (upperAt f) ≡ true
+unfolding upperAt lowerAt
+bounds-ordered (pos f) = ordered f
+bounds-ordered (negsuc f) = refl
+
+-- what a table has at the place of a frequency
+pub upper-in : (f : ℤ) → getD uppersOf (placeAt f) (pos 0) ≡ upperAt f
+unfolding uppersOf
+upper-in f = getD-listed (λ (k : ℕ). upperAt (pos k)) 59750 501 (placeAt f) (pos 0) (place-within f) ∙ upper-placed f
+
+pub lower-in : (f : ℤ) → getD lowersOf (placeAt f) (pos 0) ≡ lowerAt f
+unfolding lowersOf
+lower-in f = getD-listed (λ (k : ℕ). lowerAt (pos k)) 59750 501 (placeAt f) (pos 0) (place-within f) ∙ lower-placed f
+
+pub length-uppers : length uppersOf ≡ 501
+unfolding uppersOf
+length-uppers = length-listed (λ (k : ℕ). upperAt (pos k)) 59750 501
+
+pub length-lowers : length lowersOf ≡ 501
+unfolding lowersOf
+length-lowers = length-listed (λ (k : ℕ). lowerAt (pos k)) 59750 501
 
 -- a frequency in its range has the lines' bounds
 pub curve-is : (f : Millihertz) → inRange (pos 55000) (pos 65000) (f .0) ≡ true → curveAt f ≡ boundsAt (f .0)

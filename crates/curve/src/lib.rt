@@ -1,8 +1,8 @@
 // The power curve (document 001, table 1): a frequency's upper and lower power in percent of capacity.
 ghost use mathlib.Core.Path.{_≡_};
 ghost use lib.IntN.{pos};
-ghost use Prim.Native.Nat.{_+_, _-_, _≤_, min};
-ghost use Rattle.curve.specs.Curve.{curveAt, boundsAt, upperAt, lowerAt};
+ghost use Prim.Native.Nat.{_+_, _≤_};
+ghost use Rattle.curve.specs.Curve.{curveAt, boundsAt, upperAt, lowerAt, placeAt, uppersOf, lowersOf};
 use units::Millihertz;
 
 mod table;
@@ -20,7 +20,7 @@ pub fn curve(frequency: Millihertz) -> Bounds
 {
     let f = frequency.0;
     if whole::within(f, 55_000, 65_000) {
-        return bounds_at(f as usize);
+        return bounds_at(frequency);
     }
     Bounds {
         refusal: units::refusals::BAD_READING,
@@ -29,10 +29,10 @@ pub fn curve(frequency: Millihertz) -> Bounds
     }
 }
 
-fn bounds_at(f: usize) -> Bounds
-    ensures { λ r. ⌜ r ≡ boundsAt (pos f) ⌝ }
+fn bounds_at(frequency: Millihertz) -> Bounds
+    ensures { λ r. ⌜ r ≡ boundsAt (frequency .0) ⌝ }
 {
-    let k = place(f);
+    let k = place(frequency);
     let u = upper(k);
     let l = lower(k);
     Bounds {
@@ -42,17 +42,31 @@ fn bounds_at(f: usize) -> Bounds
     }
 }
 
-// The table's place that a frequency is read at: its distance from the table's start.
-fn place(f: usize) -> usize
-    ensures { λ r. ⌜ r ≡ min (f - 59750) 500 ⌝ }
+// The place in the table that a frequency is read at: its distance from the table's start, and the nearer end for one outside.
+pub fn place(frequency: Millihertz) -> usize
+    ensures { λ r. ⌜ r ≡ placeAt (frequency .0) ⌝ }
 {
+    let f = frequency.0;
     if f < 59_750 {
         return 0;
     }
     if 60_250 < f {
         return 500;
     }
-    f - 59_750
+    (f - 59_750) as usize
+}
+
+// The table's upper bounds, one for each millihertz from 59,750 on; and its lower ones. A run of seconds makes them once.
+pub fn uppers() -> [i64; 501]
+    ensures { λ r. ⌜ r ≡ uppersOf ⌝ }
+{
+    table::UPPER
+}
+
+pub fn lowers() -> [i64; 501]
+    ensures { λ r. ⌜ r ≡ lowersOf ⌝ }
+{
+    table::LOWER
 }
 
 fn upper(k: usize) -> i64

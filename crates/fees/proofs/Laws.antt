@@ -220,10 +220,28 @@ amount-within capacity performance factor powers targets discharge charge =
     together : (x y : ℤ) → Within 480000000 x → Within 20000000 y → Within 500000000 (x +ℤ y)
     together x y v w = omega (arith, sum x y)
 
--- an hour without transfer has no energy service
-pub no-energy : (powers targets : List ℤ) (discharge charge : ℤ) → ((q : ℕ) → q < 4 → getD targets q (pos 0) ≡ pos 0) → energyFee powers targets discharge charge ≡ pos 0
-unfolding energyFee quarterPart signedPrice foldTo nearest withSign halfUp
-no-energy powers targets discharge charge h =
+-- an hour whose quarters are all unpaid has no energy service fee
+unpaid : (powers targets : List ℤ) (discharge charge : ℤ) → ((q : ℕ) → q < 4 → signedPrice discharge charge (getD targets q (pos 0)) ≡ pos 0) → energyFee powers targets discharge charge ≡ pos 0
+unfolding energyFee quarterPart foldTo nearest withSign halfUp
+unpaid powers targets discharge charge h =
     ap (λ (z : ℤ). nearest z 360000000)
     (fold-same (pos 0) _+ℤ_ 4 (quarterPart powers targets discharge charge) (λ q. pos 0)
-    (λ q l. ap (λ (t : ℤ). sumOf (quarter powers q) *ℤ signedPrice discharge charge t) (h q l) ∙ *ℤ-zero (sumOf (quarter powers q))))
+    (λ q l. ap (λ (p : ℤ). sumOf (quarter powers q) *ℤ p) (h q l) ∙ *ℤ-zero (sumOf (quarter powers q))))
+
+-- so it is without transfer
+pub no-energy : (powers targets : List ℤ) (discharge charge : ℤ) → ((q : ℕ) → q < 4 → getD targets q (pos 0) ≡ pos 0) → energyFee powers targets discharge charge ≡ pos 0
+unfolding signedPrice
+no-energy powers targets discharge charge h = unpaid powers targets discharge charge (λ q l. ap (signedPrice discharge charge) (h q l))
+
+-- and at prices of 0, whatever else was handed in
+free : (above below : Bool) → pick above (pos 0) (pick below (negℤ (pos 0)) (pos 0)) ≡ pos 0
+free true below = refl
+free false true = refl
+free false false = refl
+
+pub free-energy : (powers targets : List ℤ) → energyAnswer powers targets (pos 0) (pos 0) .dollars ≡ record { 0 = pos 0 }
+unfolding energyAnswer signedPrice
+free-energy powers targets =
+    ap (λ (z : ℤ). record { 0 = z })
+    (answer-has (λ z. z ≡ pos 0) (energyRefusal powers targets (pos 0) (pos 0)) (energyFee powers targets (pos 0) (pos 0))
+    (λ e. unpaid powers targets (pos 0) (pos 0) (λ q l. free (ltZ (pos 0) (getD targets q (pos 0))) (ltZ (getD targets q (pos 0)) (pos 0)))) refl)

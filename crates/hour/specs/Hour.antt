@@ -42,6 +42,15 @@ hourRefusal powers frequencies places t thresholds factors =
     (unless (allInRange (minus 100000) (pos 100000) (t .targets)) badTransfer
     (unless (readingsFit powers frequencies) badReading 0)))))
 
+-- all of them but the readings': 1, 2, 3, 5, 10
+unfoldable pub termsRefusal : ℕ → ℕ → ℕ → Terms → List ℤ → List ℤ → ℕ
+termsRefusal powers frequencies places t thresholds factors =
+    unless (lengthsFit powers frequencies places) wrongLength
+    (unless (isCapacity (t .capacity .0)) badCapacity
+    (unless (pricesFit t) badMoney
+    (orElse (bandsRefusal thresholds factors)
+    (unless (allInRange (minus 100000) (pos 100000) (t .targets)) badTransfer 0))))
+
 -- ---- the scores
 
 -- the second at place i: "The power of second t is judged by the frequency of second t-1". Powers are those of seconds 1 to 3,600 and

@@ -2,21 +2,22 @@
 // uses the ledger's contracts only.
 ghost use mathlib.Core.Path.{_≡_};
 ghost use mathlib.Core.Bool.{true};
-ghost use Prim.Native.Nat.{_<_};
-ghost use lib.IntN.{_+ℤ_};
+ghost use lib.IntN.{pos, _+ℤ_};
 ghost use lib.ListN.{length, take, drop};
 ghost use mir.Syntax.{w64};
 ghost use mir.Val.{SFits};
+ghost use Rattle.whole.specs.Choice.{unless, kept};
+ghost use Rattle.whole.specs.Whole.{minus, allInRange};
+ghost use Rattle.units.specs.Refusals.{badReading};
 ghost use Rattle.fees.specs.Fees.{feeAnswer, qualityAnswer, energyAnswer};
 ghost use Rattle.bands.specs.Bands.{factorAnswer};
-ghost use Rattle.score.specs.Score.{isCapacity, secondScore};
+ghost use Rattle.score.specs.Score.{isCapacity};
 ghost use Rattle.score.specs.Rolling.{hourlyRate};
-ghost use Rattle.hour.specs.Hour.{lengthsFit, pricesFit, readingsFit, hourRefusal, scoreAt, scoresOf, scoresLeft, answerOf, refusedOf, settledOf, hourOf, dRegTerms};
+ghost use Rattle.hour.specs.Hour.{lengthsFit, pricesFit, readingsFit, termsRefusal, scoresOf, scoresLeft, answerOf, refusedOf, settledOf, hourOf, dRegTerms};
 ghost use Rattle.hour.specs.Joint.{joined, postedOf, jointOf};
 use month::Month;
 use units::Dollars;
 use units::Kilowatts;
-use units::Millihertz;
 use units::refusals;
 
 // What an hour is settled by, besides its readings and the bands. Prices are hundredths of a dollar; the targets, in kW, are the one before the
@@ -75,61 +76,36 @@ fn prices_fit(terms: Terms) -> bool
         & whole::within(charge, 0, 10_000_000)
 }
 
-fn readings_fit(powers: &[i64], frequencies: &[i64]) -> bool
-    ensures { λ r. ⌜ r ≡ readingsFit (now (powers .entry)) (now (frequencies .entry)) ⌝ }
-{
-    whole::all_within(powers, -200_000, 200_000) & whole::all_within(frequencies, 55_000, 65_000)
-}
-
-// 1, 2, 3, 5, 10, 4; 0 lets the hour through.
+// 1, 2, 3, 5, 10; the readings are tested where they are scored.
 fn refusal(
-    powers: &[i64],
-    frequencies: &[i64],
+    powers: usize,
+    frequencies: usize,
     places: usize,
     terms: Terms,
     thresholds: &[i64],
     factors: &[i64],
 ) -> u8
-    ensures { λ r. ⌜ r ≡ hourRefusal (now (powers .entry)) (now (frequencies .entry)) places terms (now (thresholds .entry)) (now (factors .entry)) ⌝ }
+    ensures { λ r. ⌜ r ≡ termsRefusal powers frequencies places terms (now (thresholds .entry)) (now (factors .entry)) ⌝ }
 {
-    let readings = whole::unless(readings_fit(powers, frequencies), refusals::BAD_READING, 0);
     let transfers = whole::all_within(&terms.targets, -100_000, 100_000);
-    let targets = whole::unless(transfers, refusals::BAD_TRANSFER, readings);
+    let targets = whole::unless(transfers, refusals::BAD_TRANSFER, 0);
     let bands = whole::or_else(bands::check(thresholds, factors), targets);
     let prices = whole::unless(prices_fit(terms), refusals::BAD_MONEY, bands);
     let capacity = whole::unless(capacity_fits(terms), refusals::BAD_CAPACITY, prices);
-    let lengths = lengths_fit(powers.len(), frequencies.len(), places);
+    let lengths = lengths_fit(powers, frequencies, places);
     whole::unless(lengths, refusals::WRONG_LENGTH, capacity)
 }
 
-// The score of the second at place i.
-fn score_at(powers: &[i64], frequencies: &[i64], terms: Terms, i: usize) -> u8
-    requires { ⌜ (i < length (now powers)) × (i < length (now frequencies)) ⌝ }
-    ensures { λ r. ⌜ r ≡ scoreAt (now (powers .entry)) (now (frequencies .entry)) terms i ⌝ }
-{
-    let power = powers[i];
-    let frequency = frequencies[i];
-    let transfer = ramp::transfer_at(&terms.targets, i);
-    second(Kilowatts(power), transfer, terms, Millihertz(frequency))
-}
-
-fn second(power: Kilowatts, transfer: Kilowatts, terms: Terms, frequency: Millihertz) -> u8
-    ensures { λ r. ⌜ r ≡ secondScore power transfer (terms .capacity) frequency .score ⌝ }
-{
-    let scored = score::second_score(power, transfer, terms.capacity, frequency);
-    scored.score
-}
-
-fn fill(powers: &[i64], frequencies: &[i64], terms: Terms, scores: &mut [u8])
+// Fills the run with the hour's scores, or answers 4 and leaves it as it was.
+fn fill(powers: &[i64], frequencies: &[i64], terms: Terms, scores: &mut [u8]) -> u8
     requires { ⌜ lengthsFit (length (now powers)) (length (now frequencies)) (length (now scores)) ≡ true ⌝ }
-    ensures { λ r. ⌜ now (scores .exit) ≡ scoresOf (now (powers .entry)) (now (frequencies .entry)) terms ⌝ }
+    requires { ⌜ (isCapacity (terms .capacity .0) ≡ true) × (allInRange (minus 100000) (pos 100000) (terms .targets) ≡ true) ⌝ }
+    ensures number { λ r. ⌜ r ≡ unless (readingsFit (now (powers .entry)) (now (frequencies .entry))) badReading 0 ⌝ }
+    ensures leaves { λ r. ⌜ now (scores .exit) ≡ kept (unless (readingsFit (now (powers .entry)) (now (frequencies .entry))) badReading 0) (scoresOf (now (powers .entry)) (now (frequencies .entry)) terms) (now (scores .entry)) ⌝ }
 {
-    let mut i = 0;
-    while i < 3600 {
-        let s = score_at(powers, frequencies, terms, i);
-        scores[i] = s;
-        i += 1;
-    }
+    let mut transfers = [0i64; 3600];
+    ramp::plan(&terms.targets, &mut transfers);
+    score::run_scores(powers, frequencies, &transfers, terms.capacity, scores)
 }
 
 fn rate_of(scores: &[u8]) -> u8
@@ -161,11 +137,14 @@ fn quality_of(capacity: Dollars, performance: Dollars, factor: i64) -> Dollars
     charged.dollars
 }
 
-// The quarters' targets are the last four of the five.
+// The quarters' targets are the last four of the five. At prices of 0 there is nothing to work out.
 fn energy_of(powers: &[i64], targets: &[i64], discharge: i64, charge: i64) -> Dollars
     requires { ⌜ length (now targets) ≡ 5 ⌝ }
     ensures { λ r. ⌜ r ≡ energyAnswer (now (powers .entry)) (take 4 (drop 1 (now (targets .entry)))) discharge charge .dollars ⌝ }
 {
+    if (discharge == 0) & (charge == 0) {
+        return Dollars(0);
+    }
     let charged = fees::energy_fee(powers, &targets[1..5], discharge, charge);
     charged.dollars
 }
@@ -261,18 +240,21 @@ pub fn hour(
     ensures leaves { λ r. ⌜ now (scores .exit) ≡ scoresLeft (now (powers .entry)) (now (frequencies .entry)) terms (now (thresholds .entry)) (now (factors .entry)) (now (scores .entry)) ⌝ }
 {
     let k = refusal(
-        powers,
-        frequencies,
+        powers.len(),
+        frequencies.len(),
         scores.len(),
         terms,
         thresholds,
         factors,
     );
-    if k == 0 {
-        fill(powers, frequencies, terms, scores);
-        return settled(powers, terms, thresholds, factors, scores);
+    if k != 0 {
+        return refused(k);
     }
-    refused(k)
+    let n = fill(powers, frequencies, terms, scores);
+    if n != 0 {
+        return refused(n);
+    }
+    settled(powers, terms, thresholds, factors, scores)
 }
 
 // The terms of a dReg hour, for the joint call too.

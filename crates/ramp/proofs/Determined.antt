@@ -5,6 +5,8 @@ use denote.Ref.{now}
 use Rattle.whole.specs.Determined.{Determined, LeftDetermined}
 use Rattle.ramp.proofs.ramp.Reads as ramp
 use Rattle.ramp.proofs.ramp.Kinds as ramp-kinds
+use Rattle.ramp.proofs.plan.Reads as plan
+use Rattle.ramp.proofs.plan.Kinds as plan-kinds
 use Rattle.ramp.proofs.planned_at.Reads as planned-at
 use Rattle.ramp.proofs.planned_at.Kinds as planned-at-kinds
 use Rattle.ramp.proofs.transfer_at.Reads as transfer-at
@@ -15,6 +17,12 @@ ramp-determined κs a x y s t p q = p .0 ∙ sym (q .0)
 
 ramp-run-determined : LeftDetermined 1 ramp-kinds.ps ramp-kinds.r (λ κs s. now (s .1 .1 .0)) ramp.Post
 ramp-run-determined κs a x y s t p q = p .1 ∙ sym (q .1)
+
+plan-determined : Determined 2 plan-kinds.ps plan-kinds.r plan.Post
+plan-determined κs a x y s t p q = p .0 ∙ sym (q .0)
+
+plan-run-determined : LeftDetermined 2 plan-kinds.ps plan-kinds.r (λ κs s. now (s .1 .0)) plan.Post
+plan-run-determined κs a x y s t p q = p .1 ∙ sym (q .1)
 
 planned-at-determined : Determined 0 planned-at-kinds.ps planned-at-kinds.r planned-at.Post
 planned-at-determined κs a x y s t p q = p ∙ sym q

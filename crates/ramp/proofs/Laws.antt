@@ -1,25 +1,26 @@
 -- What a ramp answers, for the crates above: it stays between its targets, so that a second lies within 100,000 kW whatever was handed in; and
 -- a second that is not refused is formula 1. By the sign of the difference. Assumes nothing.
 use mathlib.Core.Path.{_≡_, refl, sym, ap, ap₂, _∙_}
-use mathlib.Core.Bool.{true, false}
+use mathlib.Core.Bool.{true, false, _&&_}
 use mathlib.Core.List.{List}
 use Prim.Native.Nat.{ℕ, zero, suc, _+_, _*_, _/_, _%_, _≤_, _<_}
-use native.Mathlib.Nat.{mul-le-mul-left}
+use native.Mathlib.Nat.{mul-le-mul-left, zero-add}
 use native.Mathlib.Omega.{arith}
 use lib.Dec.{eqb, leb, lit<}
 use lib.IntN.{ℤ, pos, negsuc, natAbs, _+ℤ_, _-ℤ_, _*ℤ_, +ℤ-comm, +ℤ-idr, +ℤ-invr, -ℤ-+ℤ-cancel, zero-*ℤ}
 use lib.ListN.{length, getD, List·getD-eq-default}
-use borrow.Author.Tests.{eqb-true, leb-true, leb-false}
+use borrow.Author.Tests.{eqb-true, eq-eqb, leb-true, leb-false}
 use Rattle.whole.specs.Choice.{unless}
 use Rattle.whole.specs.Runs.{listed}
 use Rattle.whole.specs.Whole.{minus, up, down, Within, inRange, allInRange, away, withSign, roundUp}
 use Rattle.whole.proofs.Choice.{and-both, both, by-test, passed, both-passed}
 use Rattle.whole.proofs.Signed.{sum, difference, opposite, leZ-holds, times, size-product}
+use Rattle.whole.proofs.Runs.{length-listed, listed-same, getD-listed}
 use Rattle.whole.proofs.Rounding.{away-within, away-only, sign-up, sign-down}
-use Rattle.whole.proofs.Sums.{in-within, all-inside}
+use Rattle.whole.proofs.Sums.{in-within, within-in, all-inside, inside-all}
 use Rattle.units.specs.Refusals.{wrongLength, badTransfer}
 use Rattle.units.specs.declared.Kilowatts.{Kilowatts}
-use Rattle.ramp.specs.Ramp.{rampAt, quarter, isTarget, areTargets, rampRefusal, plannedAt, targetAt, transferAt}
+use Rattle.ramp.specs.Ramp.{rampAt, quarter, isTarget, areTargets, rampRefusal, plannedAt, targetAt, transferAt, planOf, planRefusal, planLeft}
 
 -- the quarter, without writing its 900 seconds out
 pub quarter-is : (last target : ℤ) (n : ℕ) → n ≡ 900 → listed (rampAt last target) 1 n ≡ quarter last target
@@ -137,6 +138,55 @@ transfer-is targets i e =
     let target = targetAt targets (i / 900 + 1) in
     planned-is last target (i % 900 + 1)
     (planned-granted last target (i % 900 + 1) (both (at-target targets (i / 900) e) (at-target targets (i / 900 + 1) e)))
+
+-- an hour's plan that is not refused
+pub record PlanFit (targets : List ℤ) (places : ℕ) : Type 0 where
+  pub five : length targets ≡ 5
+  pub long : places ≡ 3600
+  pub inside : allInRange (minus 100000) (pos 100000) targets ≡ true
+
+pub plan-fit : (targets : List ℤ) (places : ℕ) → planRefusal targets places ≡ 0 → PlanFit targets places
+unfolding planRefusal
+plan-fit targets places e =
+    let a = both-passed (unless (eqb (length targets) 5 && eqb places 3600) wrongLength 0) _ e in
+    let n = and-both (eqb (length targets) 5) (eqb places 3600) (passed (eqb (length targets) 5 && eqb places 3600) 0 0 (a .0) .0) in
+    let t = passed (allInRange (minus 100000) (pos 100000) targets) 9 0 (a .1) in
+    record { five = eqb-true (length targets) 5 (n .0); long = eqb-true places 3600 (n .1); inside = t .0 }
+
+-- each quarter's ramp is its part of the plan, without writing its 900 seconds out
+pub plan-quarter : (targets : List ℤ) (q n : ℕ) → n ≡ 900 → allInRange (minus 100000) (pos 100000) targets ≡ true
+    → quarter (getD targets q (pos 0)) (getD targets (q + 1) (pos 0)) ≡ listed (λ (i : ℕ). transferAt targets i .0) (q * 900) n
+plan-quarter targets q n long e =
+    sym (quarter-is (getD targets q (pos 0)) (getD targets (q + 1) (pos 0)) n long)
+    ∙ listed-same (rampAt (getD targets q (pos 0)) (getD targets (q + 1) (pos 0))) (λ (i : ℕ). transferAt targets i .0) 1 (q * 900) n
+    (λ k l.
+    let d : (q * 900 + k) / 900 ≡ q = omega arith in
+    let m : (q * 900 + k) % 900 + 1 ≡ 1 + k = omega arith in
+    sym (rw (d, m) at (transfer-is targets (q * 900 + k) e)))
+
+-- the whole plan, without writing its 3,600 seconds out
+pub plan-is : (targets : List ℤ) (n : ℕ) → n ≡ 3600 → listed (λ (i : ℕ). transferAt targets i .0) 0 n ≡ planOf targets
+unfolding planOf
+plan-is targets n e = ap (listed (λ (i : ℕ). transferAt targets i .0) 0) e
+
+pub plan-at : (targets : List ℤ) (i : ℕ) → i < 3600 → getD (planOf targets) i (pos 0) ≡ transferAt targets i .0
+unfolding planOf
+plan-at targets i h = getD-listed (λ (i : ℕ). transferAt targets i .0) 0 3600 i (pos 0) h ∙ ap (λ (k : ℕ). transferAt targets k .0) (zero-add i)
+
+pub length-plan : (targets : List ℤ) → length (planOf targets) ≡ 3600
+unfolding planOf
+length-plan targets = length-listed (λ (i : ℕ). transferAt targets i .0) 0 3600
+
+pub plan-inside : (targets : List ℤ) → allInRange (minus 100000) (pos 100000) (planOf targets) ≡ true
+plan-inside targets =
+    let n = length-plan targets in
+    inside-all (minus 100000) (pos 100000) (planOf targets)
+    (λ i h. let e = plan-at targets i (omega arith) in rw e (within-in (transfer-within targets i)))
+
+-- a plan of five targets in their range is not refused
+pub plan-granted : (targets run : List ℤ) → PlanFit targets (length run) → planLeft targets run ≡ planOf targets
+unfolding planLeft planRefusal
+plan-granted targets run f = rw (eq-eqb (length targets) 5 (f .five), eq-eqb (length run) 3600 (f .long), f .inside)
 
 -- an hour whose targets are all 0 transfers nothing
 level : (n : ℕ) → plannedAt (record { 0 = pos 0 }) (record { 0 = pos 0 }) n .power ≡ record { 0 = pos 0 }

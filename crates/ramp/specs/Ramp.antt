@@ -7,7 +7,7 @@ use lib.IntN.{ℤ, pos, _+ℤ_, _-ℤ_, _*ℤ_}
 use lib.ListN.{length, getD}
 use Rattle.whole.specs.Choice.{pick, unless, orElse, kept}
 use Rattle.whole.specs.Runs.{listed}
-use Rattle.whole.specs.Whole.{minus, inRange, away}
+use Rattle.whole.specs.Whole.{minus, inRange, allInRange, away}
 use Rattle.units.specs.Refusals.{wrongLength, badTransfer}
 use Rattle.units.specs.declared.Kilowatts.{Kilowatts}
 use Rattle.ramp.specs.declared.Planned.{Planned}
@@ -50,3 +50,15 @@ targetAt targets q = record { 0 = getD targets q (pos 0) }
 
 unfoldable pub transferAt : List ℤ → ℕ → Kilowatts
 transferAt targets i = plannedAt (targetAt targets (i / 900)) (targetAt targets (i / 900 + 1)) (i % 900 + 1) .power
+
+-- an hour's 3,600 scheduled transfers, and the call that fills a run with them: it takes five targets. "Order. Ramp: 1, 10"
+unfoldable pub planOf : List ℤ → List ℤ
+planOf targets = listed (λ (i : ℕ). transferAt targets i .0) 0 3600
+
+unfoldable pub planRefusal : List ℤ → ℕ → ℕ
+planRefusal targets places =
+    orElse (unless (eqb (length targets) 5 && eqb places 3600) wrongLength 0)
+    (unless (allInRange (minus 100000) (pos 100000) targets) badTransfer 0)
+
+unfoldable pub planLeft : List ℤ → List ℤ → List ℤ
+planLeft targets run = kept (planRefusal targets (length run)) (planOf targets) run

@@ -1,15 +1,17 @@
 -- What a second's score is, for the crates above: at most 100 whatever was handed in, and the paper's formula where it is not refused. By the
 -- tests of its refusal. Assumes nothing.
-use Prim.Native.Nat.{_-_, _≤_}
+use Prim.Native.Nat.{ℕ, _+_, _-_, _≤_, max}
 use mathlib.Core.Path.{_≡_, sym, ap, _∙_}
 use mathlib.Core.Bool.{true, false}
 use native.Mathlib.Omega.{arith}
 use lib.Dec.{eqb}
-use lib.IntN.{ℤ, pos}
+use lib.IntN.{ℤ, pos, _-ℤ_}
+use lib.Signed.{leZ}
 use borrow.Author.Tests.{eqb-true, eq-eqb}
 use Rattle.whole.specs.Choice.{unless}
-use Rattle.whole.specs.Whole.{minus, inRange}
+use Rattle.whole.specs.Whole.{up, down, minus, inRange, apart}
 use Rattle.whole.proofs.Choice.{by-test, and-both, passed, both-passed}
+use Rattle.whole.proofs.Signed.{signed, size, difference}
 use Rattle.units.specs.Refusals.{badCapacity, badTransfer}
 use Rattle.units.specs.declared.Kilowatts.{Kilowatts}
 use Rattle.units.specs.declared.Millihertz.{Millihertz}
@@ -23,6 +25,39 @@ score-most output upper lower =
     by-test (inRange lower upper output)
     (λ (e : inRange lower upper output ≡ true). rw e (omega arith))
     (λ (e : inRange lower upper output ≡ false). rw e (omega arith))
+
+-- how far x lies above y, 0 below
+abbrev pub past : ℤ → ℤ → ℕ
+past x y = (up x + down y) - (down x + up y)
+
+not-past : (x y : ℤ) → leZ x y ≡ true → past x y ≡ 0
+not-past x y e = omega signed
+
+apart-past : (x y : ℤ) → leZ x y ≡ false → apart x y ≡ past x y
+unfolding apart
+apart-past x y e = omega (signed, size (x -ℤ y), difference x y)
+
+apart-short : (x y : ℤ) → leZ y x ≡ false → apart x y ≡ past y x
+unfolding apart
+apart-short x y e = omega (signed, size (x -ℤ y), difference x y)
+
+-- where the lower bound is not above the upper one, the distance to the nearer bound is how far the output lies above the upper or below the lower
+pub score-outside : (output upper lower : ℤ) → leZ lower upper ≡ true → scoreOf output upper lower ≡ 100 - max (past output upper) (past lower output)
+unfolding scoreOf inRange
+score-outside output upper lower order =
+    by-test (leZ lower output)
+    (λ (e : leZ lower output ≡ true).
+    by-test (leZ output upper)
+    (λ (g : leZ output upper ≡ true). rw (e, g, not-past lower output e, not-past output upper g))
+    (λ (g : leZ output upper ≡ false).
+    let f : leZ output lower ≡ false = omega signed in
+    let nearer : past output upper ≤ past output lower = omega signed in
+    rw (e, g, not-past lower output e, apart-past output upper g, apart-past output lower f) (omega arith)))
+    (λ (e : leZ lower output ≡ false).
+    let g : leZ output upper ≡ true = omega signed in
+    let f : leZ upper output ≡ false = omega signed in
+    let nearer : past lower output ≤ past upper output = omega signed in
+    rw (e, not-past output upper g, apart-short output upper f, apart-short output lower e) (omega arith))
 
 -- what is not refused, test by test
 pub record Fit (p t c : Kilowatts) (f : Millihertz) : Type 0 where

@@ -1,4 +1,5 @@
 -- What belongs to no one function; `pub` is what crates above cite.
 pub mod Laws
+pub mod Run
 pub mod Rates
 mod Determined

@@ -1,3 +1,4 @@
 -- A second's score, and an hour's rate by its scores.
 pub mod Score
+pub mod Run
 pub mod Rolling

@@ -32,6 +32,21 @@ passed false n rest e = absurd (omega arith)
 pub both-passed : (k rest : ℕ) → orElse k rest ≡ 0 → (k ≡ 0) × (rest ≡ 0)
 both-passed k rest e = by-test (eqb k 0) (λ (t : eqb k 0 ≡ true). (eqb-true k 0 t, rw t at e)) (λ (t : eqb k 0 ≡ false). let z : k ≡ 0 = rw t at e in clash (sym t ∙ eq-eqb k 0 z))
 
+-- which of two refusals it is
+pub or-first : {k : ℕ} (rest : ℕ) → (k ≡ 0 → ⊥) → orElse k rest ≡ k
+or-first {k} rest h = rw (ne-eqb k 0 h)
+
+pub or-rest : {k : ℕ} (rest : ℕ) → k ≡ 0 → orElse k rest ≡ rest
+or-rest {k} rest e = rw (eq-eqb k 0 e)
+
+-- a refusal that comes last in a chain comes last after it
+pub unless-then : (b : Bool) (n rest last : ℕ) → unless b (suc n) (orElse rest last) ≡ orElse (unless b (suc n) rest) last
+unless-then true n rest last = refl
+unless-then false n rest last = rw (ne-eqb (suc n) 0 (λ e. absurd (omega arith)))
+
+pub or-else-then : (k rest last : ℕ) → orElse k (orElse rest last) ≡ orElse (orElse k rest) last
+or-else-then k rest last = by-test (eqb k 0) (λ (t : eqb k 0 ≡ true). rw t) (λ (t : eqb k 0 ≡ false). rw t (sym (ap (λ b. pick b last k) t)))
+
 -- what is kept
 pub kept-new : {A : Type 0} {k : ℕ} (new old : A) → k ≡ 0 → kept k new old ≡ new
 kept-new {k = k} new old e = rw (eq-eqb k 0 e)

@@ -38,19 +38,18 @@ pub fn within(x: i64, low: i64, high: i64) -> bool
     (low <= x) & (x <= high)
 }
 
-// Whether each number of a run lies from low to high.
+// Whether each number of a run lies from low to high. It goes on past one that does not, so that several are tested at a time.
 pub fn all_within(run: &[i64], low: i64, high: i64) -> bool
     ensures { λ r. ⌜ r ≡ allInRange low high (now (run .entry)) ⌝ }
 {
+    let mut all = true;
     let mut i = 0;
     while i < run.len() {
         let x = run[i];
-        if !within(x, low, high) {
-            return false;
-        }
+        all = all & within(x, low, high);
         i += 1;
     }
-    true
+    all
 }
 
 // The size of x, its sign left out.

@@ -1,14 +1,12 @@
--- `curve::curve` meets its contract: a frequency in the range is a natural number. Assumes nothing.
-use mathlib.Core.Path.{_≡_, sym, ap, _∙_}
-use lib.IntN.{ℤ, pos, natAbs}
+-- `curve::curve` meets its contract: its test is the definition's. Assumes nothing.
+use mathlib.Core.Path.{_≡_, sym, _∙_}
+use lib.IntN.{pos}
 use mir.Syntax.{w64}
 use mir.Val.{SFits}
 use mir.Facts.{toZ-ofZ}
 use borrow.Author.Needs.{needs}
 use Rattle.whole.specs.Whole.{inRange}
-use Rattle.whole.proofs.Signed.{size-fits}
-use Rattle.curve.specs.Curve.{curveAt, boundsAt}
-use Rattle.curve.proofs.Laws.{natural}
+use Rattle.curve.specs.Curve.{curveAt}
 use Rattle.curve.proofs.curve.Statement.{statement}
 use Rattle.curve.proofs.curve.Tie as tie
 
@@ -22,26 +20,16 @@ f-fits c = search needs
 found : (c : tie.After-within) → inRange (pos 55000) (pos 65000) (c .before .before .args .frequency .0) ≡ c .within .result
 found c = sym (rw (toZ-ofZ (f-fits (c .before))) at (c .within .ensures))
 
-cast-bounds-at : tie.Need-cast-bounds-at
-cast-bounds-at c =
-    let f = f-fits (c .before .before) in
-    rw (toZ-ofZ f) (natural 55000 65000 _ (found (c .before) ∙ c .if1 .taken) .0, size-fits f)
-
 bounds-at-requires : tie.Need-bounds-at-requires
 bounds-at-requires c κs = search needs
 
 returns : tie.Need-returns
 unfolding curveAt
-returns c =
-    let t = c .before in
-    let e = found (t .before) ∙ t .if1 .taken in
-    let f = f-fits (t .before .before) in
-    rw e (rw (toZ-ofZ f, natural 55000 65000 _ e .1) at (c .bounds-at .ensures))
+returns c = let t = c .before in rw (found (t .before) ∙ t .if1 .taken) (c .bounds-at .ensures)
 
 returns-2 : tie.Need-returns-2
 unfolding curveAt
 returns-2 c = rw (found (c .before) ∙ c .if1 .left)
 
 pub curve-spec : {M : Type 1} → statement M
-curve-spec =
-    tie.close (tie.spec within-requires cast-bounds-at bounds-at-requires returns returns-2)
+curve-spec = tie.close (tie.spec within-requires bounds-at-requires returns returns-2)

@@ -1,7 +1,7 @@
--- `whole::all_within` meets its contract. The loop's invariant: every number passed lies in the range. Assumes nothing.
+-- `whole::all_within` meets its contract. The loop's invariant: what is kept is whether every number passed lies in the range. Assumes nothing.
 use Prim.Native.Nat.{ℕ, _≤_, _-_}
-use mathlib.Core.Path.{_≡_, sym, ap, _∙_}
-use mathlib.Core.Bool.{Bool, true, false, _&&_}
+use mathlib.Core.Path.{_≡_, sym, ap₂, _∙_}
+use mathlib.Core.Bool.{Bool, true, _&&_}
 use native.Mathlib.Omega.{arith}
 use lib.IntN.{ℤ, pos}
 use lib.ListN.{length, getD}
@@ -10,11 +10,9 @@ use mir.Syntax.{w64}
 use mir.Val.{SFits, toZ, ofZ}
 use mir.Facts.{toZ-ofZ}
 use borrow.Author.Needs.{needs}
-use borrow.Author.Tests.{not-true, not-false}
 use Rattle.whole.specs.Folds.{allTo}
 use Rattle.whole.specs.Whole.{inRange, allInRange}
-use Rattle.whole.proofs.Choice.{both}
-use Rattle.whole.proofs.Folds.{fold-none, fold-step, all-fails}
+use Rattle.whole.proofs.Folds.{fold-none, fold-step}
 use Rattle.whole.proofs.all_within.Statement.{statement}
 use Rattle.whole.proofs.all_within.Tie as tie
 
@@ -23,10 +21,10 @@ abbrev inRun : ℕ → ℕ → List ℤ → ℕ → Bool
 inRun low high run i = inRange (toZ w64 low) (toZ w64 high) (getD run i (pos 0))
 
 abbrev Inv-loop : tie.InvT-loop
-Inv-loop run low high i₀ i = (i ≤ length run) × (allTo i (inRun low high run) ≡ true)
+Inv-loop run low high all₀ i₀ all i = (i ≤ length run) × (allTo i (inRun low high run) ≡ all)
 
 abbrev μ-loop : tie.MeasureT-loop
-μ-loop run low high i₀ i = length run - i
+μ-loop run low high all₀ i₀ all i = length run - i
 
 loop-holds : tie.Need-loop-holds Inv-loop μ-loop
 loop-holds c = (omega arith, fold-none true _&&_ _)
@@ -50,16 +48,6 @@ found : (c : tie.After-within Inv-loop μ-loop) →
     c .within .result ≡ inRun (ofZ w64 (a .low)) (ofZ w64 (a .high)) (a .run .now) (l .loop .i)
 found c = rw (toZ-ofZ (at-fits (c .before))) at (c .within .ensures)
 
-returns : tie.Need-returns Inv-loop μ-loop
-unfolding allInRange
-returns c =
-    let l = c .before .before .before .before in
-    let f = l .before .fits in
-    let a = l .before .args in
-    let e : allInRange (toZ w64 (ofZ w64 (a .low))) (toZ w64 (ofZ w64 (a .high))) (a .run .now) ≡ false =
-    all-fails (length (a .run .now)) _ (l .loop .i) (omega arith) (sym (found (c .before)) ∙ not-true _ (c .if1 .taken)) in
-    sym (rw (toZ-ofZ (f .low), toZ-ofZ (f .high)) at e)
-
 add-i : tie.Need-add-i Inv-loop μ-loop
 add-i c = search needs
 
@@ -68,17 +56,17 @@ loop-less c = search needs
 
 loop-again : tie.Need-loop-again Inv-loop μ-loop
 loop-again c =
-    let l = c .before .before .before .before in
-    (omega arith, fold-step true _&&_ _ _ ∙ both (l .loop .inv .1) (sym (found (c .before)) ∙ not-false _ (c .if1 .left)))
+    let l = c .before .before .before in
+    (omega arith, fold-step true _&&_ _ _ ∙ ap₂ _&&_ (l .loop .inv .1) (sym (found c)))
 
-returns-2 : tie.Need-returns-2 Inv-loop μ-loop
+returns : tie.Need-returns Inv-loop μ-loop
 unfolding allInRange
-returns-2 c =
+returns c =
     let l = c .before in
     let f = l .before .fits in
     let a = l .before .args in
     let n : l .loop .i ≡ length (a .run .now) = omega arith in
-    let e : allInRange (toZ w64 (ofZ w64 (a .low))) (toZ w64 (ofZ w64 (a .high))) (a .run .now) ≡ true = rw n at (l .loop .inv .1) in
+    let e : allInRange (toZ w64 (ofZ w64 (a .low))) (toZ w64 (ofZ w64 (a .high))) (a .run .now) ≡ l .loop .all = rw n at (l .loop .inv .1) in
     sym (rw (toZ-ofZ (f .low), toZ-ofZ (f .high)) at e)
 
 pub all-within-spec : {M : Type 1} → statement M
@@ -91,8 +79,7 @@ all-within-spec =
     mul-x
     shared-slice-copy-out-x
     within-requires
-    returns
     add-i
     loop-less
     loop-again
-    returns-2)
+    returns)

@@ -1,0 +1,70 @@
+-- A run of seconds that is not refused, test by test, and each of its seconds. By the tests of its refusal. Assumes nothing.
+use Prim.Native.Nat.{ℕ, _<_}
+use mathlib.Core.Path.{_≡_, ap}
+use mathlib.Core.Bool.{true, _&&_}
+use mathlib.Core.List.{List}
+use native.Mathlib.Omega.{arith}
+use lib.Dec.{eqb}
+use lib.IntN.{ℤ, pos}
+use lib.ListN.{length, getD}
+use borrow.Author.Tests.{eqb-true, eq-eqb}
+use Rattle.whole.specs.Whole.{minus, allInRange}
+use Rattle.whole.specs.Runs.{listed}
+use Rattle.whole.proofs.Choice.{and-both, passed}
+use Rattle.whole.proofs.Sums.{all-inside}
+use Rattle.units.specs.declared.Kilowatts.{Kilowatts}
+use Rattle.score.specs.Score.{isCapacity, secondRefusal}
+use Rattle.score.specs.Run.{runRefusal, runScoreAt, runScores}
+use Rattle.score.proofs.Laws.{fit-second}
+
+pub record RunFit (powers frequencies transfers : List ℤ) (capacity : Kilowatts) (places : ℕ) : Type 0 where
+  pub as-frequencies : length frequencies ≡ length powers
+  pub as-transfers : length transfers ≡ length powers
+  pub as-places : places ≡ length powers
+  pub capacity-fits : isCapacity (capacity .0) ≡ true
+  pub transfers-fit : allInRange (minus 100000) (pos 100000) transfers ≡ true
+  pub powers-fit : allInRange (minus 200000) (pos 200000) powers ≡ true
+  pub frequencies-fit : allInRange (pos 55000) (pos 65000) frequencies ≡ true
+
+module _ (powers frequencies transfers : List ℤ) (capacity : Kilowatts) (places : ℕ) where
+  pub run-fit : runRefusal powers frequencies transfers capacity places ≡ 0 → RunFit powers frequencies transfers capacity places
+  unfolding runRefusal
+  run-fit e =
+      let f = eqb (length frequencies) (length powers) in
+      let t = eqb (length transfers) (length powers) in
+      let p = eqb places (length powers) in
+      let long = passed ((f && t) && p) 0 _ e in
+      let capacity = passed (isCapacity (capacity .0)) 1 _ (long .1) in
+      let planned = passed (allInRange (minus 100000) (pos 100000) transfers) 9 _ (capacity .1) in
+      let read = passed (allInRange (minus 200000) (pos 200000) powers && allInRange (pos 55000) (pos 65000) frequencies) 3 0 (planned .1) in
+      let readings = and-both (allInRange (minus 200000) (pos 200000) powers) (allInRange (pos 55000) (pos 65000) frequencies) (read .0) in
+      let all = and-both (f && t) p (long .0) in
+      let two = and-both f t (all .0) in
+      record {
+        as-frequencies = eqb-true (length frequencies) (length powers) (two .0);
+        as-transfers = eqb-true (length transfers) (length powers) (two .1);
+        as-places = eqb-true places (length powers) (all .1);
+        capacity-fits = capacity .0;
+        transfers-fit = planned .0;
+        powers-fit = readings .0;
+        frequencies-fit = readings .1;
+      }
+
+  -- each second of it
+  pub run-second : RunFit powers frequencies transfers capacity places → (i : ℕ) → i < length powers
+      → secondRefusal (record { 0 = getD powers i (pos 0) }) (record { 0 = getD transfers i (pos 0) }) capacity (record { 0 = getD frequencies i (pos 0) }) ≡ 0
+  run-second f i h =
+      let n = f .as-frequencies in
+      let t = f .as-transfers in
+      fit-second _ _ _ _
+      (record {
+        capacity = f .capacity-fits;
+        transfer = all-inside (minus 100000) (pos 100000) transfers (f .transfers-fit) i (omega arith);
+        power = all-inside (minus 200000) (pos 200000) powers (f .powers-fit) i h;
+        frequency = all-inside (pos 55000) (pos 65000) frequencies (f .frequencies-fit) i (omega arith);
+      })
+
+  -- the scores, without writing them out
+  pub run-scores-is : (n : ℕ) → n ≡ length powers → listed (runScoreAt powers frequencies transfers capacity) 0 n ≡ runScores powers frequencies transfers capacity
+  unfolding runScores
+  run-scores-is n e = ap (listed (runScoreAt powers frequencies transfers capacity) 0) e
