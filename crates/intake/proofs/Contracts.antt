@@ -14,7 +14,7 @@ use denote.Ref.{now}
 use denote.Triple.Clauses.{AtExit}
 use borrow.Fn.Kinds.{Dens, endedOf}
 use Rattle.whole.proofs.Choice.{by-test}
-use Rattle.intake.specs.Text.{put}
+use Rattle.text.specs.Text.{put}
 use Rattle.intake.specs.Book.{transcript}
 use Rattle.intake.specs.Desk.{startState, chunkText, chunkBook, chunkState, lastText, fits, ends, fedOf, fedMarks, fedAmounts, fedOut, finishedOf, endOut}
 use Rattle.intake.specs.declared.State.{State}

@@ -12,11 +12,11 @@ use lib.ListN.{length, take, drop, length-append, length-drop}
 use lib.Seq.{drop-drop}
 use borrow.Rule.Slice.PartAt.{part-to-end}
 use Rattle.intake.specs.Lines.{beforeEnd}
-use Rattle.intake.specs.Text.{put}
+use Rattle.text.specs.Text.{put}
 use Rattle.intake.specs.Book.{Book, answerTo, bookAfter, answersTo, bookAfterAll}
 use Rattle.intake.specs.Desk.{heldIn, emptyLine, keptIn, linesIn, leftIn, lastIn}
 use Rattle.intake.specs.declared.Line.{Line}
-use Rattle.intake.proofs.Places.{put-put, put-nothing}
+use Rattle.text.proofs.Places.{put-put, put-nothing}
 use Rattle.intake.proofs.Cutting.{lines-cut, left-cut, lines-none, left-none, before-take}
 
 -- of lines `all` from a book and a place in out, `ls` are left at the book, place and run of now

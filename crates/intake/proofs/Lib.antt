@@ -1,6 +1,6 @@
 -- The laws that belong to no one function.
-mod Places
-mod Spelling
+mod Cleared
+mod Printed
 mod Cutting
 mod Calls
 mod Going

@@ -15,7 +15,8 @@ use Rattle.frame.specs.Kinds.{lossFeeKind}
 use Rattle.frame.specs.declared.Reading.{Reading}
 use Rattle.frame.specs.declared.Reading.the-variants.{Frame, Refused}
 use Rattle.intake.specs.Lines.{lineEnd}
-use Rattle.intake.specs.Text.{totalText, put}
+use Rattle.text.specs.Text.{put}
+use Rattle.intake.specs.Text.{totalText}
 use Rattle.intake.specs.Book.{Book, answersTo, bookAfterAll}
 use Rattle.intake.specs.declared.Line.{Line}
 use Rattle.intake.specs.declared.Desk.{Desk}

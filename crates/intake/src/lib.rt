@@ -6,7 +6,7 @@ ghost use mathlib.Core.Path.{_≡_};
 ghost use mathlib.Core.Bool.{true, false, not};
 ghost use lib.IntN.{pos};
 ghost use lib.ListN.{length, replicate};
-ghost use Rattle.intake.specs.Text.{put};
+ghost use Rattle.text.specs.Text.{put};
 ghost use Rattle.whole.specs.Choice.{unless};
 ghost use Rattle.units.specs.Refusals.{notOpen, notInMonth};
 ghost use Rattle.month.specs.Month.{dollars, isDays};
@@ -23,7 +23,7 @@ use units::Dollars;
 use units::refusals;
 
 mod cut;
-mod text;
+mod print;
 
 // The most lines that are answered.
 pub const MOST: u64 = 1_000_000;
@@ -262,7 +262,7 @@ fn answer(
         return Work { desk, at };
     }
     let taken = end_line(desk, line, rest, filled, amounts);
-    let to = text::put_answer(out, at, count + 1, taken.refusal);
+    let to = print::put_answer(out, at, count + 1, taken.refusal);
     let next = taken.desk;
     let head = next.head;
     Work {
@@ -408,7 +408,7 @@ fn finish_all(state: State, filled: &mut [bool], amounts: &mut [i64], out: &mut 
     let work = last_line(state, filled, amounts, out);
     let desk = work.desk;
     let total = settle(desk, amounts);
-    let to = text::put_total(out, work.at, total.0);
+    let to = print::put_total(out, work.at, total.0);
     Finished {
         refusal: 0,
         written: to,

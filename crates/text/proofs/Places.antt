@@ -114,7 +114,11 @@ length-with out at text =
     (λ (t : leb (at + length text) (length out) ≡ true). let h = leb-true (at + length text) (length out) t in ap length (text-fits out at text h) ∙ length-put out at text h)
     (λ (t : leb (at + length text) (length out) ≡ false). let h = leb-false (at + length text) (length out) t in ap length (text-same out at text h))
 
--- a text after another, each with the place after it: where both fit, they are their join
+-- a text where it fits, with the place after it; and another after it: they are their join
+pub with-first : (out mid : List ℕ) (at a : ℕ) (s : List ℕ) → at + length s ≤ length out
+    → a ≡ placeAfter out at s → mid ≡ withText out at s → (a ≡ at + length s) × (mid ≡ put out at s)
+with-first out mid at a s h p q = (p ∙ place-fits out at s h, q ∙ text-fits out at s h)
+
 pub with-then : (out mid last : List ℕ) (at a b : ℕ) (s t : List ℕ) → at + length (s ++ t) ≤ length out
     → a ≡ at + length s → mid ≡ put out at s → b ≡ placeAfter mid a t → last ≡ withText mid a t
     → (b ≡ at + length (s ++ t)) × (last ≡ put out at (s ++ t))

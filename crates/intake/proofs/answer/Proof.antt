@@ -5,12 +5,13 @@ use native.Mathlib.Omega.{arith}
 use mathlib.Core.Path.{sym, ap, _∙_}
 use mathlib.Core.List.{List}
 use lib.ListN.{length}
-use Rattle.intake.specs.Text.{answerText, put}
+use Rattle.text.specs.Text.{put}
+use Rattle.intake.specs.Text.{answerText}
 use Rattle.intake.specs.Book.{counted}
 use Rattle.intake.specs.Desk.{bookOf, heldIn, keptIn}
 use Rattle.intake.proofs.Calls.{answered-none, answered-one}
-use Rattle.intake.proofs.Places.{put-nothing}
-use Rattle.intake.proofs.Spelling.{length-answer}
+use Rattle.text.proofs.Places.{put-nothing}
+use Rattle.intake.proofs.Printed.{length-answer}
 use Rattle.intake.proofs.answer.Statement.{statement}
 use Rattle.intake.proofs.answer.Tie as tie
 

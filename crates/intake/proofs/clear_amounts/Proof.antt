@@ -7,7 +7,7 @@ use lib.ListN.{length, length-set}
 use Rattle.whole.specs.Runs.{filled as cleared}
 use Rattle.whole.proofs.Runs.{filled-next}
 use borrow.Author.Needs.{needs}
-use Rattle.intake.proofs.Places.{all-same}
+use Rattle.intake.proofs.Cleared.{all-same}
 use Rattle.intake.proofs.clear_amounts.Statement.{statement}
 use Rattle.intake.proofs.clear_amounts.Tie as tie
 

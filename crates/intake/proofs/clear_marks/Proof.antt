@@ -6,7 +6,7 @@ use mathlib.Core.Bool.{false}
 use lib.ListN.{length, length-set}
 use Rattle.whole.specs.Runs.{filled as cleared}
 use Rattle.whole.proofs.Runs.{filled-next}
-use Rattle.intake.proofs.Places.{all-same}
+use Rattle.intake.proofs.Cleared.{all-same}
 use Rattle.intake.proofs.clear_marks.Statement.{statement}
 use Rattle.intake.proofs.clear_marks.Tie as tie
 

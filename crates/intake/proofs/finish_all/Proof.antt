@@ -9,11 +9,13 @@ use mir.Syntax.{w64}
 use mir.Val.{SFits, toZ, ofZ}
 use mir.Facts.{toZ-ofZ}
 use Rattle.units.specs.declared.Dollars.{Dollars}
-use Rattle.intake.specs.Text.{totalText, put}
+use Rattle.text.specs.Text.{put}
+use Rattle.intake.specs.Text.{totalText}
 use Rattle.intake.specs.Book.{Book}
 use Rattle.intake.specs.Desk.{settled, lastBook, lastAnswer}
-use Rattle.intake.proofs.Places.{put-then}
-use Rattle.intake.proofs.Spelling.{total-long, length-signed}
+use Rattle.text.proofs.Places.{put-then}
+use Rattle.text.proofs.Spelling.{length-signed}
+use Rattle.intake.proofs.Printed.{total-long}
 use Rattle.intake.proofs.finish_all.Statement.{statement}
 use Rattle.intake.proofs.finish_all.Tie as tie
 

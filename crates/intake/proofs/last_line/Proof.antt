@@ -3,10 +3,10 @@ use borrow.Author.Needs.{needs}
 use native.Mathlib.Omega.{arith}
 use mathlib.Core.Path.{sym, ap, _∙_}
 use lib.ListN.{length}
-use Rattle.intake.specs.Text.{put}
+use Rattle.text.specs.Text.{put}
 use Rattle.intake.specs.Desk.{bookOf}
 use Rattle.intake.proofs.Going.{last-none, last-some}
-use Rattle.intake.proofs.Places.{put-nothing}
+use Rattle.text.proofs.Places.{put-nothing}
 use Rattle.intake.proofs.last_line.Statement.{statement}
 use Rattle.intake.proofs.last_line.Tie as tie
 
