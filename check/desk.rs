@@ -1,0 +1,271 @@
+//! The text form of `desk`: how it reads questions, and the line that it prints for each. The rules are document 01's (rules.rs, month.rs).
+
+use crate::faults::{wrong, Fault};
+use crate::month::{write, Frame};
+use crate::rules::{self, Answer, Band, Hour, Settled, Shift};
+
+const MOST_NUMBERS: usize = 8192;
+const MOST_LETTERS: usize = 12;
+const SECONDS: usize = 3600;
+
+// ---- reading
+
+pub struct Token<'a> {
+    line: usize,
+    bytes: &'a [u8],
+}
+
+/// A question: the token that opened it, then all that belong to it.
+pub struct Question<'a> {
+    tokens: Vec<Token<'a>>,
+}
+
+fn separates(byte: &u8) -> bool {
+    matches!(byte, b' ' | b'\t' | b',' | b'\r')
+}
+
+fn is_letter(byte: &u8) -> bool {
+    matches!(byte, b'a'..=b'z' | b'_')
+}
+
+/// The tokens of a text: each line without its comment, cut at its separators.
+fn tokens(text: &[u8]) -> impl Iterator<Item = Token<'_>> {
+    let numbered = text.split(|byte| *byte == b'\n').enumerate();
+    numbered.flat_map(|(at, line)| {
+        let said = line.split(|byte| *byte == b'#').next().unwrap_or(&[]);
+        let found = said.split(separates).filter(|bytes| !bytes.is_empty());
+        found.map(move |bytes| Token { line: at + 1, bytes })
+    })
+}
+
+/// "A token whose first byte is a letter begins a question"; any other opens one only where none is open.
+pub fn questions(text: &[u8]) -> Vec<Question<'_>> {
+    let mut asked: Vec<Question> = Vec::new();
+    for token in tokens(text) {
+        match asked.last_mut() {
+            Some(open) if !is_letter(&token.bytes[0]) => open.tokens.push(token),
+            _ => asked.push(Question { tokens: vec![token] }),
+        }
+    }
+    asked
+}
+
+/// What is wrong with a question's text: the number of the fault, and its line.
+struct Misread {
+    fault: u8,
+    line: usize,
+}
+
+fn fault_words(fault: u8) -> &'static str {
+    match fault {
+        101 => "not a question",
+        102 => "a number too large for 64 bits",
+        103 => "too few numbers",
+        104 => "too many numbers",
+        _ => "not a number",
+    }
+}
+
+/// "An optional `-`, then 1 or more digits and nothing else", and its value in 64 bits.
+fn number(token: &Token) -> Result<i64, Misread> {
+    let misread = |fault| Misread { fault, line: token.line };
+    let (sign, digits) = token.bytes.strip_prefix(b"-").map_or(("", token.bytes), |rest| ("-", rest));
+    if digits.is_empty() || !digits.iter().all(u8::is_ascii_digit) {
+        return Err(misread(105));
+    }
+    let first = digits.iter().position(|digit| *digit != b'0').unwrap_or(digits.len() - 1);
+    let significant = String::from_utf8_lossy(&digits[first..]);
+    format!("{sign}{significant}").parse().map_err(|_| misread(102))
+}
+
+/// How many numbers a word needs.
+enum Needs {
+    Just(usize),
+    /// So many, then pairs.
+    Pairs(usize),
+    /// So many, then N, N pairs of bands and the hour's readings.
+    HourAfter(usize),
+}
+
+const DREG_HEAD: usize = 3;
+const EDREG_HEAD: usize = 10;
+
+fn needs(word: &[u8]) -> Option<Needs> {
+    let needs = match word {
+        b"kilowatts" | b"curve" => Needs::Just(1),
+        b"ramp" | b"fee" => Needs::Just(2),
+        b"quality" => Needs::Just(3),
+        b"score" | b"loss" | b"frame" => Needs::Just(4),
+        b"rate" => Needs::Just(SECONDS),
+        b"energy" => Needs::Just(6 + SECONDS),
+        b"bands" => Needs::Pairs(0),
+        b"factor" => Needs::Pairs(1),
+        b"dreg" | b"dreg_scores" => Needs::HourAfter(DREG_HEAD),
+        b"edreg" | b"edreg_scores" => Needs::HourAfter(EDREG_HEAD),
+        b"dreg_frame" => Needs::HourAfter(2 + DREG_HEAD),
+        b"edreg_frame" => Needs::HourAfter(2 + EDREG_HEAD),
+        _ => return None,
+    };
+    Some(needs)
+}
+
+/// "N outside 0..100 counts as 0."
+fn records(n: i64) -> usize {
+    if (0..=100).contains(&n) {
+        n as usize
+    } else {
+        0
+    }
+}
+
+/// How many numbers the question should have, told from those that it has.
+fn needed(needs: &Needs, numbers: &[i64]) -> usize {
+    match *needs {
+        Needs::Just(count) => count,
+        Needs::Pairs(head) => head + numbers.len().saturating_sub(head).next_multiple_of(2),
+        Needs::HourAfter(head) => head + 1 + 2 * numbers.get(head).map_or(0, |n| records(*n)) + 2 * SECONDS,
+    }
+}
+
+/// The question's numbers, or its first fault.
+fn numbers(question: &Question) -> Result<Vec<i64>, Misread> {
+    let opened = &question.tokens[0];
+    let known = if opened.bytes.len() <= MOST_LETTERS { needs(opened.bytes) } else { None };
+    let needs = known.ok_or(Misread { fault: 101, line: opened.line })?;
+    let mut found = Vec::new();
+    for token in &question.tokens[1..] {
+        let value = number(token)?;
+        if found.len() == MOST_NUMBERS {
+            return Err(Misread { fault: 104, line: token.line });
+        }
+        found.push(value);
+    }
+    let last = &question.tokens[question.tokens.len() - 1];
+    let line = if wrong(Fault::CountedAtTheEnd) { last.line } else { opened.line };
+    match found.len().cmp(&needed(&needs, &found)) {
+        std::cmp::Ordering::Less => Err(Misread { fault: 103, line }),
+        std::cmp::Ordering::Greater => Err(Misread { fault: 104, line }),
+        std::cmp::Ordering::Equal => Ok(found),
+    }
+}
+
+// ---- answering
+
+/// The refusal, then the fields, all 0 beside a refusal.
+fn fields<const N: usize>(answer: Answer<[i64; N]>) -> String {
+    let (refusal, values) = match answer {
+        Ok(values) => (0, values),
+        Err(refusal) => (refusal, [0; N]),
+    };
+    listed(refusal, &values)
+}
+
+fn listed(refusal: u8, values: &[i64]) -> String {
+    let mut line = refusal.to_string();
+    for value in values {
+        line.push(' ');
+        line.push_str(&value.to_string());
+    }
+    line
+}
+
+/// 0 and the run, or the refusal alone.
+fn run(answer: Answer<Vec<i64>>) -> String {
+    answer.map_or_else(|refusal| refusal.to_string(), |values| listed(0, &values))
+}
+
+/// The frame's digits, or the refusal alone.
+fn digits(answer: Answer<String>) -> String {
+    answer.unwrap_or_else(|refusal| refusal.to_string())
+}
+
+fn pairs(numbers: &[i64]) -> Vec<Band> {
+    numbers.chunks(2).map(|pair| Band { threshold: pair[0], factor: pair[1] }).collect()
+}
+
+/// "A number outside 0..255 is taken as 255."
+fn as_byte(x: i64) -> i64 {
+    if (0..=255).contains(&x) {
+        x
+    } else {
+        255
+    }
+}
+
+fn shift(numbers: &[i64], before: i64, targets: &[i64]) -> Shift {
+    Shift { discharge: numbers[0], charge: numbers[1], before, targets: targets.try_into().expect("four targets") }
+}
+
+/// The numbers of `dreg` (3 before N) or `edreg` (10 before N).
+fn hour(numbers: &[i64], head: usize) -> Hour {
+    let tail = &numbers[head + 1..];
+    let (bands, readings) = tail.split_at(tail.len() - 2 * SECONDS);
+    let every_second = |from: usize| readings.iter().skip(from).step_by(2).copied().collect();
+    Hour {
+        capacity: numbers[0],
+        clearing: numbers[1],
+        performance: numbers[2],
+        shift: (head == EDREG_HEAD).then(|| shift(&numbers[3..5], numbers[5], &numbers[6..10])),
+        bands: pairs(bands),
+        powers: every_second(0),
+        frequencies: every_second(1),
+    }
+}
+
+fn hour_fields(s: Settled) -> [i64; 7] {
+    [s.rate, s.factor, s.capacity_fee, s.performance_fee, s.quality, s.energy, s.amount]
+}
+
+fn byte(x: i64, refusal: u8) -> Answer<u8> {
+    u8::try_from(x).map_err(|_| refusal)
+}
+
+/// "KIND gives refusal 13, then DAY or HOUR gives 6; otherwise the writer's refusal."
+fn frame(kind: i64, day: i64, hour: i64, amount: i64) -> Answer<String> {
+    write(&Frame { kind: byte(kind, 13)?, day: byte(day, 6)?, hour: byte(hour, 6)?, amount })
+}
+
+/// The frame that posts an hour's amount: "the hour's refusal first, then 6".
+fn hour_frame(numbers: &[i64], head: usize) -> Answer<String> {
+    let settled = rules::settle(&hour(&numbers[2..], head))?;
+    frame(1, numbers[0], numbers[1], settled.amount)
+}
+
+fn answer(word: &[u8], n: &[i64]) -> String {
+    match word {
+        b"kilowatts" => fields(rules::kilowatts(n[0]).map(|power| [power])),
+        b"curve" => fields(rules::curve(n[0]).map(|(upper, lower)| [upper, lower])),
+        b"score" => fields(rules::score(n[0], n[1], n[2], n[3]).map(|score| [score])),
+        b"ramp" => run(rules::ramp(n[0], n[1])),
+        b"rate" => fields(rules::rate(&n.iter().map(|score| as_byte(*score)).collect::<Vec<_>>()).map(|rate| [rate])),
+        b"bands" => fields(rules::bands(&pairs(n)).map(|()| [])),
+        b"factor" => fields(rules::factor(&pairs(&n[1..]), as_byte(n[0])).map(|factor| [factor])),
+        b"fee" => fields(rules::fee(n[0], n[1]).map(|dollars| [dollars])),
+        b"quality" => fields(rules::quality(n[0], n[1], n[2]).map(|dollars| [dollars])),
+        b"energy" => fields(rules::energy(&shift(n, 0, &n[2..6]), &n[6..]).map(|dollars| [dollars])),
+        b"loss" => fields(rules::loss(n[0], n[1], n[2], n[3]).map(|(basic, excess)| [basic, excess, basic + excess])),
+        b"dreg" => fields(rules::settle(&hour(n, DREG_HEAD)).map(hour_fields)),
+        b"edreg" => fields(rules::settle(&hour(n, EDREG_HEAD)).map(hour_fields)),
+        b"dreg_scores" => run(rules::settle(&hour(n, DREG_HEAD)).map(|settled| settled.scores)),
+        b"edreg_scores" => run(rules::settle(&hour(n, EDREG_HEAD)).map(|settled| settled.scores)),
+        b"dreg_frame" => digits(hour_frame(n, DREG_HEAD)),
+        b"edreg_frame" => digits(hour_frame(n, EDREG_HEAD)),
+        _ => digits(frame(n[0], n[1], n[2], n[3])),
+    }
+}
+
+impl Question<'_> {
+    /// The line that desk prints for it.
+    pub fn line(&self) -> String {
+        match numbers(self) {
+            Ok(numbers) => answer(self.tokens[0].bytes, &numbers),
+            Err(misread) => format!("line {}: {} {}", misread.line, misread.fault, fault_words(misread.fault)),
+        }
+    }
+
+    /// Its tokens, for a person to read.
+    pub fn shown(&self) -> String {
+        let words: Vec<_> = self.tokens.iter().map(|token| String::from_utf8_lossy(token.bytes)).collect();
+        words.join(" ")
+    }
+}

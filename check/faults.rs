@@ -1,0 +1,58 @@
+//! Deliberate faults: each is one wrong rule on this side of the comparison. A check that does not find it would not find the same fault
+//! in the programs either. `check/run faults` tries them all.
+
+use std::sync::OnceLock;
+
+#[derive(Clone, Copy, PartialEq)]
+pub enum Fault {
+    HalfTowardZero,
+    WindowOfThree,
+    OwnSecond,
+    RampTowardZero,
+    BandBelowTheRate,
+    PriceBeforeCapacity,
+    QuartersRounded,
+    VoltageInclusive,
+    SevenAndEight,
+    SecondPost,
+    WithdrawalForgotten,
+    FeeAfterClose,
+    KindBeforeSum,
+    CountedAtTheEnd,
+}
+
+/// The name on the command line, the fault, and what it does.
+pub const FAULTS: [(&str, Fault, &str); 14] = [
+    ("half-toward-zero", Fault::HalfTowardZero, "a half is rounded toward zero"),
+    ("window-of-three", Fault::WindowOfThree, "a rolling rate looks at three seconds"),
+    ("own-second", Fault::OwnSecond, "a power is judged by its own second's frequency"),
+    ("ramp-toward-zero", Fault::RampTowardZero, "a ramp's division drops toward zero"),
+    ("band-below-the-rate", Fault::BandBelowTheRate, "a band needs a rate above its threshold"),
+    ("price-before-capacity", Fault::PriceBeforeCapacity, "refusal 3 comes before 2"),
+    ("quarters-rounded", Fault::QuartersRounded, "each quarter's energy is rounded by itself"),
+    ("voltage-inclusive", Fault::VoltageInclusive, "11.4 kV still has the factor 1.08"),
+    ("seven-and-eight", Fault::SevenAndEight, "refusals 7 and 8 are swapped"),
+    ("second-post", Fault::SecondPost, "a second post overwrites the first"),
+    ("withdrawal-forgotten", Fault::WithdrawalForgotten, "the total still counts a withdrawn hour"),
+    ("fee-after-close", Fault::FeeAfterClose, "a closed month takes a loss fee"),
+    ("kind-before-sum", Fault::KindBeforeSum, "refusal 13 comes before 12"),
+    ("counted-at-the-end", Fault::CountedAtTheEnd, "a wrong count is told with the question's last line"),
+];
+
+static CHOSEN: OnceLock<Fault> = OnceLock::new();
+
+/// Switches on the fault of this name; says whether there is one.
+pub fn switch_on(name: &str) -> bool {
+    let found = FAULTS.iter().find(|(known, _, _)| *known == name);
+    found.is_some_and(|(_, fault, _)| CHOSEN.set(*fault).is_ok())
+}
+
+/// Whether this rule is to be worked wrong.
+pub fn wrong(fault: Fault) -> bool {
+    CHOSEN.get() == Some(&fault)
+}
+
+/// Whether a fault is switched on.
+pub fn any() -> bool {
+    CHOSEN.get().is_some()
+}

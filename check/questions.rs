@@ -1,0 +1,803 @@
+//! What `desk` is asked: one function a part, each writing the text of one run.
+
+use crate::draw::{edges, Draw};
+use crate::month::AMOUNT;
+use crate::rules::*;
+
+const BYTE: Limits = Limits(0, 255);
+const DAY: Limits = Limits(1, 31);
+const HOUR: Limits = Limits(0, 23);
+const KIND: Limits = Limits(0, 5);
+const SECONDS: usize = 3600;
+
+// ---- writing a question
+
+const GAPS: [&str; 12] = [",", "\t", "\n", "\r\n", ", ", "  ,\t ", "\n\n", " # 7 curve\n", "#\n", "\n# x, y #-1\n", " \r ", "\n,\n"];
+
+/// What stands between two tokens: nearly always a space.
+fn gap(draw: &mut Draw) -> &'static str {
+    if draw.one_in(48) {
+        draw.of(&GAPS)
+    } else {
+        " "
+    }
+}
+
+/// A number's digits, now and then with zeros before them.
+fn spelled(draw: &mut Draw, number: i64) -> String {
+    let sign = if number < 0 || (number == 0 && draw.one_in(8)) { "-" } else { "" };
+    let zeros = if draw.one_in(64) { draw.between(1, 30) as usize } else { 0 };
+    format!("{sign}{}{}", "0".repeat(zeros), number.unsigned_abs())
+}
+
+fn ask(draw: &mut Draw, text: &mut String, word: &str, numbers: &[i64]) {
+    text.push_str(word);
+    for number in numbers {
+        text.push_str(gap(draw));
+        text.push_str(&spelled(draw, *number));
+    }
+    text.push_str(if draw.one_in(8) { gap(draw) } else { "\n" });
+}
+
+/// One question for each edge of each number, the others fit.
+fn ask_edges(draw: &mut Draw, text: &mut String, word: &str, limits: &[Limits]) {
+    for (at, limit) in limits.iter().enumerate() {
+        for edge in edges(*limit) {
+            let mut numbers: Vec<_> = limits.iter().map(|limit| draw.fit(*limit)).collect();
+            numbers[at] = edge;
+            ask(draw, text, word, &numbers);
+        }
+    }
+}
+
+/// Questions of any numbers, several of them often at fault at once.
+fn ask_any(draw: &mut Draw, text: &mut String, word: &str, limits: &[Limits], count: usize) {
+    for _ in 0..count {
+        let numbers: Vec<_> = limits.iter().map(|limit| draw.any(*limit)).collect();
+        ask(draw, text, word, &numbers);
+    }
+}
+
+// ---- units, curve, score, ramp
+
+/// Every whole megawatt of the range and past it.
+pub fn kilowatts(draw: &mut Draw) -> String {
+    let mut text = String::new();
+    for megawatts in -105..=105 {
+        ask(draw, &mut text, "kilowatts", &[megawatts]);
+    }
+    ask_edges(draw, &mut text, "kilowatts", &[MEGAWATTS]);
+    ask_any(draw, &mut text, "kilowatts", &[MEGAWATTS], 300);
+    text
+}
+
+/// Every whole millihertz of the range and past it.
+pub fn curve(draw: &mut Draw) -> String {
+    let mut text = String::new();
+    for frequency in 54_990..=65_010 {
+        ask(draw, &mut text, "curve", &[frequency]);
+    }
+    ask_edges(draw, &mut text, "curve", &[FREQUENCY]);
+    ask_any(draw, &mut text, "curve", &[FREQUENCY], 1000);
+    text
+}
+
+/// A frequency, mostly where the curve bends.
+fn frequency(draw: &mut Draw) -> i64 {
+    if draw.one_in(10) {
+        draw.fit(FREQUENCY)
+    } else {
+        draw.between(59_740, 60_260)
+    }
+}
+
+/// A power whose percent output is this one, or lies at a half beside it.
+fn power_at(draw: &mut Draw, percent: i64, transfer: i64, capacity: i64) -> i64 {
+    let halves = 2 * percent + draw.of(&[0, 0, 0, -1, 1]);
+    let exact = halves * capacity;
+    let power = exact.div_euclid(200) + i64::from(exact.rem_euclid(200) != 0 && draw.one_in(2));
+    (transfer + power).clamp(POWER.0, POWER.1)
+}
+
+/// A percent output at, in or near the curve's bounds.
+fn percent_near(draw: &mut Draw, frequency: i64) -> i64 {
+    let (upper, lower) = bounds(frequency);
+    match draw.below(6) {
+        0 => upper + draw.between(-1, 2),
+        1 => lower - draw.between(-1, 2),
+        2 => upper + draw.between(95, 105),
+        3 => lower - draw.between(95, 105),
+        _ => draw.between(lower - 10, upper + 10),
+    }
+}
+
+pub fn score(draw: &mut Draw) -> String {
+    let mut text = String::new();
+    let limits = [POWER, TARGET, CAPACITY, FREQUENCY];
+    ask_edges(draw, &mut text, "score", &limits);
+    ask_any(draw, &mut text, "score", &limits, 1000);
+    for _ in 0..3000 {
+        let capacity = if draw.one_in(2) { 200 * draw.between(1, 500) } else { draw.fit(CAPACITY) };
+        let transfer = if draw.one_in(2) { 0 } else { draw.fit(TARGET) };
+        let frequency = frequency(draw);
+        let percent = percent_near(draw, frequency);
+        let power = power_at(draw, percent, transfer, capacity);
+        ask(draw, &mut text, "score", &[power, transfer, capacity, frequency]);
+    }
+    text
+}
+
+pub fn ramp(draw: &mut Draw) -> String {
+    let mut text = String::new();
+    ask_edges(draw, &mut text, "ramp", &[TARGET, TARGET]);
+    ask_any(draw, &mut text, "ramp", &[TARGET, TARGET], 60);
+    for _ in 0..20 {
+        let last = draw.fit(TARGET);
+        let step = draw.between(-301, 301);
+        ask(draw, &mut text, "ramp", &[last, (last + step).clamp(TARGET.0, TARGET.1)]);
+    }
+    text
+}
+
+// ---- rates and bands
+
+/// How long a dip lasts: as a rule too short to fill a window of four.
+fn dip_length(draw: &mut Draw) -> usize {
+    if draw.one_in(40) {
+        draw.between(4, 7) as usize
+    } else {
+        draw.between(1, 3) as usize
+    }
+}
+
+/// An hour of scores that stays above a floor but for short dips; few dips are as long as a window.
+fn scores(draw: &mut Draw) -> Vec<i64> {
+    let floor = draw.fit(SCORE);
+    let mut list = Vec::new();
+    if draw.one_in(2) {
+        list.push(floor);
+    }
+    while list.len() < SECONDS {
+        let dip = dip_length(draw);
+        list.extend((0..dip).map(|_| draw.between(0, floor)));
+        let calm = draw.between(1, 60);
+        list.extend((0..calm).map(|_| draw.between(floor, SCORE.1)));
+    }
+    if draw.one_in(2) {
+        list.reverse();
+    }
+    list.truncate(SECONDS);
+    list
+}
+
+pub fn rate(draw: &mut Draw) -> String {
+    let mut text = String::new();
+    for _ in 0..30 {
+        let mut list = scores(draw);
+        if draw.one_in(5) {
+            let at = draw.of(&[0, 1, 1800, SECONDS - 1]);
+            list[at] = draw.of(&edges(SCORE));
+        }
+        ask(draw, &mut text, "rate", &list);
+    }
+    text
+}
+
+type Pair = (i64, i64);
+
+const LIST_S: [Pair; 7] = [(95, 10), (94, 8), (93, 6), (92, 4), (91, 2), (70, 0), (0, -10)];
+
+fn fit_bands(draw: &mut Draw) -> Vec<Pair> {
+    if draw.one_in(3) {
+        return LIST_S.to_vec();
+    }
+    let mut thresholds = vec![0];
+    for _ in 0..draw.below(16) {
+        thresholds.push(draw.fit(THRESHOLD));
+    }
+    thresholds.sort_by(|a, b| b.cmp(a));
+    thresholds.dedup();
+    thresholds.into_iter().map(|threshold| (threshold, draw.fit(FACTOR))).collect()
+}
+
+/// A list with one or two things done to it, most of which put it against the rule.
+fn spoiled_bands(draw: &mut Draw) -> Vec<Pair> {
+    let mut list = fit_bands(draw);
+    for _ in 0..=draw.below(2) {
+        let at = draw.below(list.len());
+        match draw.below(7) {
+            0 => list[at].0 = draw.of(&edges(THRESHOLD)),
+            1 => list[at].1 = draw.of(&edges(FACTOR)),
+            2 => list.insert(at, list[at]),
+            3 => list.swap(at, 0),
+            4 => list.push((0, draw.fit(FACTOR))),
+            5 => list = (0..draw.between(15, 18)).rev().map(|threshold| (threshold, 0)).collect(),
+            _ => drop(list.pop()),
+        }
+        if list.is_empty() {
+            break;
+        }
+    }
+    list
+}
+
+fn any_bands(draw: &mut Draw) -> Vec<Pair> {
+    match draw.below(20) {
+        0..=9 => fit_bands(draw),
+        10 => vec![(0, draw.fit(FACTOR)); draw.of(&[0, 17, 99, 100, 300])],
+        _ => spoiled_bands(draw),
+    }
+}
+
+fn flat(pairs: &[Pair]) -> Vec<i64> {
+    pairs.iter().flat_map(|(threshold, factor)| [*threshold, *factor]).collect()
+}
+
+/// A rate at, above or below a threshold of the list.
+fn rate_near(draw: &mut Draw, list: &[Pair]) -> i64 {
+    if list.is_empty() || draw.one_in(4) {
+        return draw.any(SCORE);
+    }
+    draw.of(list).0.saturating_add(draw.between(-1, 1))
+}
+
+pub fn bands(draw: &mut Draw) -> String {
+    let mut text = String::new();
+    for _ in 0..1500 {
+        let list = any_bands(draw);
+        ask(draw, &mut text, "bands", &flat(&list));
+        let list = any_bands(draw);
+        let mut numbers = vec![rate_near(draw, &list)];
+        numbers.extend(flat(&list));
+        ask(draw, &mut text, "factor", &numbers);
+    }
+    text
+}
+
+// ---- fees
+
+/// A price and a capacity whose fee ends in half a dollar.
+fn tied_fee(draw: &mut Draw) -> [i64; 2] {
+    let (odd, other) = (2 * draw.between(0, 40) + 1, 2 * draw.between(0, 40) + 1);
+    [50 * odd, 1000 * other]
+}
+
+pub fn fees(draw: &mut Draw) -> String {
+    let mut text = String::new();
+    ask_edges(draw, &mut text, "fee", &[PRICE, CAPACITY]);
+    ask_any(draw, &mut text, "fee", &[PRICE, CAPACITY], 1500);
+    ask_edges(draw, &mut text, "quality", &[FEE, FEE, FACTOR]);
+    ask_any(draw, &mut text, "quality", &[FEE, FEE, FACTOR], 1500);
+    for _ in 0..500 {
+        let numbers = tied_fee(draw);
+        ask(draw, &mut text, "fee", &numbers);
+    }
+    text
+}
+
+/// Energies and a cost whose fees often end in half a dollar.
+fn tied_loss(draw: &mut Draw) -> [i64; 4] {
+    let charged = 2500 * draw.between(0, 400);
+    let discharged = 500 * draw.between(0, 2000);
+    let volts = draw.of(&[1, 110, 11_399, 11_400, 11_401, 22_800, 68_999, 69_000, 69_001, 161_000, 1_000_000]);
+    [charged, discharged, volts, 25 * draw.between(0, 400)]
+}
+
+pub fn loss(draw: &mut Draw) -> String {
+    let mut text = String::new();
+    let limits = [ENERGY, ENERGY, VOLTAGE, COST];
+    ask_edges(draw, &mut text, "loss", &limits);
+    ask_any(draw, &mut text, "loss", &limits, 1500);
+    for _ in 0..1500 {
+        let mut numbers = tied_loss(draw);
+        if draw.one_in(3) {
+            numbers[1] = numbers[0] / 5 * 4 + draw.between(-1, 1);
+        }
+        ask(draw, &mut text, "loss", &numbers);
+    }
+    text
+}
+
+const ENERGY_HEAD: [Limits; 6] = [PRICE, PRICE, TARGET, TARGET, TARGET, TARGET];
+
+/// Prices and targets, then the powers of four quarters.
+fn energy_numbers(draw: &mut Draw) -> Vec<i64> {
+    let mut numbers: Vec<_> = ENERGY_HEAD.iter().map(|limit| draw.fit(*limit)).collect();
+    for _ in 0..4 {
+        let steady = draw.fit(POWER);
+        let varies = draw.one_in(2);
+        numbers.extend((0..900).map(|_| if varies { draw.fit(POWER) } else { steady }));
+    }
+    numbers
+}
+
+/// Even dollars and steady powers in thousands: the sum is a whole number of half dollars.
+fn tied_energy(draw: &mut Draw) -> Vec<i64> {
+    let mut numbers: Vec<_> = ENERGY_HEAD.iter().map(|limit| draw.fit(*limit)).collect();
+    for price in &mut numbers[..2] {
+        *price = 200 * draw.between(0, 1000);
+    }
+    for _ in 0..4 {
+        let steady = 1000 * draw.between(-200, 200);
+        numbers.extend([steady; 900]);
+    }
+    numbers
+}
+
+/// Some numbers set to what may be past their limits.
+fn spoil_energy(draw: &mut Draw, numbers: &mut [i64]) {
+    for (at, limit) in ENERGY_HEAD.iter().enumerate() {
+        if draw.one_in(4) {
+            numbers[at] = draw.any(*limit);
+        }
+    }
+    if draw.one_in(2) {
+        let at = ENERGY_HEAD.len() + draw.of(&[0, 1, 899, 900, SECONDS - 1]);
+        numbers[at] = draw.of(&edges(POWER));
+    }
+}
+
+pub fn energy(draw: &mut Draw) -> String {
+    let mut text = String::new();
+    for _ in 0..40 {
+        let mut numbers = if draw.one_in(2) { tied_energy(draw) } else { energy_numbers(draw) };
+        if draw.one_in(3) {
+            spoil_energy(draw, &mut numbers);
+        }
+        ask(draw, &mut text, "energy", &numbers);
+    }
+    text
+}
+
+// ---- hours
+
+/// An hour's numbers as `dreg` and `edreg` take them: the head, N with its pairs, the readings.
+struct Asked {
+    head: Vec<i64>,
+    limits: Vec<Limits>,
+    bands: Vec<i64>,
+    readings: Vec<i64>,
+}
+
+impl Asked {
+    fn numbers(&self) -> Vec<i64> {
+        [&self.head[..], &self.bands[..], &self.readings[..]].concat()
+    }
+}
+
+/// N and its pairs.
+fn counted(list: &[Pair]) -> Vec<i64> {
+    let mut numbers = vec![list.len() as i64];
+    numbers.extend(flat(list));
+    numbers
+}
+
+/// N past what the form counts: no pairs follow.
+fn uncounted(draw: &mut Draw) -> Vec<i64> {
+    vec![draw.of(&[-1, 101, 256, 257, 1 << 32, (1 << 32) + 1, i64::MIN, i64::MAX])]
+}
+
+/// The scheduled transfers of the head's targets; none for dReg.
+fn planned(head: &[i64]) -> Vec<i64> {
+    match head {
+        [_, _, _, discharge, charge, before, targets @ ..] => transfers(&Shift {
+            discharge: *discharge,
+            charge: *charge,
+            before: *before,
+            targets: targets.try_into().expect("four targets"),
+        }),
+        _ => vec![0; SECONDS],
+    }
+}
+
+/// How the frequency goes on.
+fn next_frequency(draw: &mut Draw, way: usize, last: i64) -> i64 {
+    match way {
+        0 => last,
+        1 => (last + draw.between(-8, 8)).clamp(59_700, 60_300),
+        2 => draw.fit(FREQUENCY),
+        _ => draw.between(59_740, 60_260),
+    }
+}
+
+/// A percent output within the bounds, or in a dip up to so much outside them.
+fn percent(draw: &mut Draw, frequency: i64, dips: bool, depth: i64) -> i64 {
+    let (upper, lower) = bounds(frequency);
+    match (dips, draw.below(4)) {
+        (false, 0) => upper,
+        (false, 1) => lower,
+        (false, _) => draw.between(lower, upper),
+        (true, 0 | 1) => upper + draw.between(0, depth),
+        (true, _) => lower - draw.between(0, depth),
+    }
+}
+
+/// Readings that follow the curve but for dips of some depth.
+fn readings(draw: &mut Draw, capacity: i64, planned: &[i64]) -> Vec<i64> {
+    let depth = draw.of(&[0, 4, 9, 30, 130]);
+    let way = draw.below(5);
+    let (mut now, mut dip, mut calm) = (60_000, 0, draw.below(40));
+    let mut list = Vec::new();
+    for transfer in planned {
+        if dip == 0 && calm == 0 {
+            (dip, calm) = (dip_length(draw), draw.below(60));
+        }
+        now = next_frequency(draw, way, now);
+        let output = percent(draw, now, dip > 0, depth);
+        list.extend([power_at(draw, output, *transfer, capacity), now]);
+        (dip, calm) = if dip > 0 { (dip - 1, calm) } else { (0, calm - 1) };
+    }
+    list
+}
+
+fn fit_hour(draw: &mut Draw, shifts: bool) -> Asked {
+    let mut limits = vec![CAPACITY, PRICE, PRICE];
+    if shifts {
+        limits.extend([PRICE, PRICE, TARGET, TARGET, TARGET, TARGET, TARGET]);
+    }
+    let mut head: Vec<_> = limits.iter().map(|limit| draw.fit(*limit)).collect();
+    if draw.one_in(3) {
+        [head[1], head[0]] = tied_fee(draw);
+    }
+    if head[0] < 100 && draw.one_in(2) {
+        head[0] = draw.between(100, 5000);
+    }
+    let bands = counted(&fit_bands(draw));
+    let readings = readings(draw, head[0], &planned(&head));
+    Asked { head, limits, bands, readings }
+}
+
+/// One to four numbers of the hour set to an edge.
+fn spoil(draw: &mut Draw, hour: &mut Asked) {
+    for _ in 0..=draw.below(4) {
+        match draw.below(4) {
+            0 | 1 => {
+                let at = draw.below(hour.head.len());
+                hour.head[at] = draw.of(&edges(hour.limits[at]));
+            }
+            2 => hour.bands = if draw.one_in(4) { uncounted(draw) } else { counted_any(draw) },
+            _ => spoil_reading(draw, hour),
+        }
+    }
+}
+
+fn counted_any(draw: &mut Draw) -> Vec<i64> {
+    let list = any_bands(draw);
+    counted(&list[..list.len().min(100)])
+}
+
+fn spoil_reading(draw: &mut Draw, hour: &mut Asked) {
+    let at = draw.of(&[0, 1, 2, 3, 3600, 3601, 7198, 7199]);
+    hour.readings[at] = draw.of(&edges(if at % 2 == 0 { POWER } else { FREQUENCY }));
+}
+
+/// The words for an hour: its fields, its scores, its frame.
+fn hour_words(shifts: bool) -> [&'static str; 3] {
+    if shifts {
+        ["edreg", "edreg_scores", "edreg_frame"]
+    } else {
+        ["dreg", "dreg_scores", "dreg_frame"]
+    }
+}
+
+fn ask_frame(draw: &mut Draw, text: &mut String, shifts: bool, place: [i64; 2], numbers: &[i64]) {
+    ask(draw, text, hour_words(shifts)[2], &[&place, numbers].concat());
+}
+
+/// Asks for one of the three.
+fn ask_hour(draw: &mut Draw, text: &mut String, shifts: bool, numbers: &[i64]) {
+    match draw.below(10) {
+        0..=4 => ask(draw, text, hour_words(shifts)[0], numbers),
+        5..=7 => ask(draw, text, hour_words(shifts)[1], numbers),
+        _ => {
+            let place = if draw.one_in(2) { [draw.any(DAY), draw.any(HOUR)] } else { [draw.any(BYTE), draw.any(BYTE)] };
+            ask_frame(draw, text, shifts, place, numbers);
+        }
+    }
+}
+
+fn hours(draw: &mut Draw, shifts: bool) -> String {
+    let mut text = String::new();
+    for run in 0..20 {
+        let mut hour = fit_hour(draw, shifts);
+        if run % 3 == 0 {
+            spoil(draw, &mut hour);
+        }
+        ask_hour(draw, &mut text, shifts, &hour.numbers());
+    }
+    text
+}
+
+pub fn dreg(draw: &mut Draw) -> String {
+    hours(draw, false)
+}
+
+pub fn edreg(draw: &mut Draw) -> String {
+    hours(draw, true)
+}
+
+/// The edges of an hour's number that matter most: in text an hour is long.
+fn ends(Limits(low, high): Limits) -> [i64; 6] {
+    [low - 1, low, high, high + 1, i64::MIN, i64::MAX]
+}
+
+/// Places of an hour's numbers, with their limits: the head, the first and the last band, some readings.
+fn places(hour: &Asked) -> Vec<(usize, Limits)> {
+    let bands_at = hour.head.len() + 1;
+    let readings_at = hour.head.len() + hour.bands.len();
+    let mut places: Vec<_> = hour.limits.iter().copied().enumerate().collect();
+    places.extend([(bands_at, THRESHOLD), (bands_at + 1, FACTOR), (readings_at - 2, THRESHOLD), (readings_at - 1, FACTOR)]);
+    for second in [0, 1, 1799, SECONDS - 1] {
+        places.extend([(readings_at + 2 * second, POWER), (readings_at + 2 * second + 1, FREQUENCY)]);
+    }
+    places
+}
+
+/// Every limit of an hour's numbers, one past it, and the 64-bit ends, one at a time: fields, scores and frame.
+fn hour_limits(draw: &mut Draw, shifts: bool) -> String {
+    let mut text = String::new();
+    let fit = fit_hour(draw, shifts);
+    let [fields, scores, _] = hour_words(shifts);
+    for (at, limits) in places(&fit) {
+        for end in ends(limits) {
+            let mut numbers = fit.numbers();
+            numbers[at] = end;
+            ask(draw, &mut text, fields, &numbers);
+            ask(draw, &mut text, scores, &numbers);
+            ask_frame(draw, &mut text, shifts, [1, 0], &numbers);
+        }
+    }
+    for place in [[-1, 0], [0, 0], [255, 255], [256, 0], [0, -1], [0, 256], [i64::MIN, 0], [0, i64::MAX]] {
+        ask_frame(draw, &mut text, shifts, place, &fit.numbers());
+    }
+    text
+}
+
+pub fn dreg_limits(draw: &mut Draw) -> String {
+    hour_limits(draw, false)
+}
+
+pub fn edreg_limits(draw: &mut Draw) -> String {
+    hour_limits(draw, true)
+}
+
+/// A number just past a limit, or at an end of 64 bits.
+fn past(draw: &mut Draw, Limits(low, high): Limits) -> i64 {
+    draw.of(&[low - 1, high + 1, i64::MIN, i64::MAX])
+}
+
+/// The hour with one more thing against the rules, which alone would be refused with this number.
+fn refuse(draw: &mut Draw, hour: &mut Asked, refusal: u8) {
+    let prices: &[usize] = if hour.head.len() > 3 { &[1, 2, 3, 4] } else { &[1, 2] };
+    match refusal {
+        2 => hour.head[0] = past(draw, CAPACITY),
+        3 => hour.head[draw.of(prices)] = past(draw, PRICE),
+        5 => hour.bands = draw.of(&[&[0][..], &[101], &[1, 1, 0], &[2, 5, 0, 5, 0], &[1, 0, 11]]).to_vec(),
+        10 => hour.head[draw.of(&[5, 6, 7, 8, 9])] = past(draw, TARGET),
+        _ => {
+            let second = draw.below(SECONDS);
+            let (at, limits) = draw.of(&[(0, POWER), (1, FREQUENCY)]);
+            hour.readings[2 * second + at] = past(draw, limits);
+        }
+    }
+}
+
+/// An hour for every set of its refusals: the first in their order is the answer.
+pub fn hour_orders(draw: &mut Draw) -> String {
+    let mut text = String::new();
+    for (shifts, refusals) in [(false, &[2, 3, 5, 4][..]), (true, &[2, 3, 5, 10, 4])] {
+        for set in 1..1 << refusals.len() {
+            let mut hour = fit_hour(draw, shifts);
+            for (_, refusal) in refusals.iter().enumerate().filter(|(at, _)| set >> at & 1 == 1) {
+                refuse(draw, &mut hour, *refusal);
+            }
+            ask_hour(draw, &mut text, shifts, &hour.numbers());
+        }
+    }
+    text
+}
+
+// ---- frames
+
+pub fn frame(draw: &mut Draw) -> String {
+    let mut text = String::new();
+    ask_edges(draw, &mut text, "frame", &[KIND, BYTE, BYTE, AMOUNT]);
+    for _ in 0..3000 {
+        let kind = draw.any(KIND);
+        let field = |draw: &mut Draw, limits| if draw.one_in(2) { 0 } else { draw.any(limits) };
+        let (day, hour) = (field(draw, BYTE), field(draw, BYTE));
+        let amount = if draw.one_in(4) { draw.next() as i64 } else { field(draw, AMOUNT) };
+        ask(draw, &mut text, "frame", &[kind, day, hour, amount]);
+    }
+    text
+}
+
+/// A month by its frames: what desk prints for this goes into `ledger`.
+pub fn month(draw: &mut Draw) -> String {
+    let mut text = String::new();
+    ask(draw, &mut text, "frame", &[0, 31, 0, 0]);
+    for _ in 0..8 {
+        let shifts = draw.one_in(2);
+        let mut hour = fit_hour(draw, shifts);
+        if draw.one_in(6) {
+            spoil(draw, &mut hour);
+        }
+        let word = if shifts { "edreg_frame" } else { "dreg_frame" };
+        let place = [draw.between(1, 2), draw.between(0, 3)];
+        ask(draw, &mut text, word, &[&place[..], &hour.numbers()].concat());
+        let (kind, day, hour) = (draw.between(2, 3), draw.between(1, 2), draw.between(0, 3));
+        let amount = if kind == 2 { draw.any(AMOUNT) } else { 0 };
+        ask(draw, &mut text, "frame", &[kind, day, hour, amount]);
+    }
+    let fee = draw.between(0, 1_000_000);
+    ask(draw, &mut text, "frame", &[4, 0, 0, fee]);
+    ask(draw, &mut text, "frame", &[5, 0, 0, 0]);
+    text
+}
+
+// ---- reading
+
+const STRANGERS: [&str; 20] = [
+    "curves",
+    "kilowatt",
+    "_",
+    "a",
+    "abcdefghijkl",
+    "abcdefghijklm",
+    "edreg_scores",
+    "edreg_scoresx",
+    "curve1",
+    "dregframe",
+    "x-1",
+    "e.5",
+    "scorE",
+    "curve-",
+    "dreg__scores",
+    "total",
+    "line",
+    "fee.",
+    "ramp\u{e9}",
+    "frame\0",
+];
+
+const JUNK: [&str; 20] = [
+    "-", "--3", "1-2", "12x", "6.5", "+5", "Curve", "\u{e9}", "\0", "0x10", "1_000", "-a", ".", "!", "5-", "-0-", "1e3", "\u{b}", "\"7\"",
+    "RATE",
+];
+
+const LARGE: [&str; 12] = [
+    "9223372036854775807",
+    "9223372036854775808",
+    "-9223372036854775808",
+    "-9223372036854775809",
+    "18446744073709551615",
+    "18446744073709551616",
+    "-18446744073709551616",
+    "36893488147419103232",
+    "340282366920938463463374607431768211456",
+    "00000000000000000000000000000000009223372036854775807",
+    "-00000000000000000000000009223372036854775809",
+    "99999999999999999999",
+];
+
+/// Words with how many numbers each takes (and what those may be, when right).
+const SMALL: [(&str, &[Limits]); 7] = [
+    ("kilowatts", &[MEGAWATTS]),
+    ("curve", &[FREQUENCY]),
+    ("fee", &[PRICE, CAPACITY]),
+    ("quality", &[FEE, FEE, FACTOR]),
+    ("score", &[POWER, TARGET, CAPACITY, FREQUENCY]),
+    ("loss", &[ENERGY, ENERGY, VOLTAGE, COST]),
+    ("bands", &[THRESHOLD, FACTOR]),
+];
+
+/// What stands between tokens here: all sorts of separators and comments, in any number.
+fn wild_gap(draw: &mut Draw, text: &mut String) {
+    for _ in 0..=draw.below(3) {
+        text.push_str(if draw.one_in(2) { " " } else { draw.of(&GAPS) });
+    }
+}
+
+fn wild_question(draw: &mut Draw, text: &mut String) {
+    let (word, limits) = draw.of(&SMALL);
+    text.push_str(word);
+    let mut numbers: Vec<_> = limits.iter().map(|limit| draw.any(*limit)).collect();
+    match draw.below(6) {
+        0 => drop(numbers.pop()),
+        1 => numbers.push(7),
+        _ => {}
+    }
+    for number in numbers {
+        wild_gap(draw, text);
+        text.push_str(&spelled(draw, number));
+    }
+}
+
+fn wild_token(draw: &mut Draw, text: &mut String) {
+    match draw.below(12) {
+        0..=5 => wild_question(draw, text),
+        6 => text.push_str(draw.of(&STRANGERS)),
+        7 => text.push_str(draw.of(&JUNK)),
+        8 => text.push_str(draw.of(&LARGE)),
+        9 => text.push_str("# curve 60000, 12\r"),
+        10 => text.push_str(&draw.any(SCORE).to_string()),
+        _ => text.push_str(&format!("curve {}#x", draw.of(&LARGE))),
+    }
+}
+
+fn wild(draw: &mut Draw, tokens: usize) -> String {
+    let mut text = String::new();
+    if draw.one_in(3) {
+        wild_gap(draw, &mut text);
+    }
+    for at in 0..tokens {
+        if at > 0 {
+            wild_gap(draw, &mut text);
+        }
+        wild_token(draw, &mut text);
+    }
+    if draw.one_in(2) {
+        wild_gap(draw, &mut text);
+    }
+    text
+}
+
+/// A short text, for how an input begins and ends; now and then with no token at all.
+pub fn short_text(draw: &mut Draw) -> String {
+    match draw.below(20) {
+        0 => String::new(),
+        1 => " ,\t\r\n\n# nothing".to_string(),
+        _ => {
+            let tokens = draw.below(12);
+            wild(draw, tokens)
+        }
+    }
+}
+
+pub fn long_text(draw: &mut Draw) -> String {
+    wild(draw, 6000)
+}
+
+/// Tokens and comments of any length.
+fn ask_lengthy(draw: &mut Draw, text: &mut String) {
+    let long = draw.between(1000, 200_000) as usize;
+    let (zeros, nines, letters) = ("0".repeat(long), "9".repeat(long), "a".repeat(long));
+    text.push_str(&format!("curve {zeros}60000\nfee 1 -{zeros}\ncurve {nines}\n{letters} 3\ncurve # {letters}\n60000\ncurve {letters}"));
+    text.push_str(&format!("{}curve{}60000\n", "\n".repeat(long), " ".repeat(long)));
+}
+
+/// As many numbers as this, on lines of some length.
+fn ask_count(draw: &mut Draw, text: &mut String, word: &str, count: usize) {
+    text.push_str(word);
+    let on_a_line = draw.between(1, 900) as usize;
+    for at in 0..count {
+        text.push_str(if at % on_a_line == 0 { "\n" } else { " " });
+        text.push_str(draw.of(&["0", "1", "7"]));
+    }
+    text.push('\n');
+}
+
+/// Questions whose counts are right, one short, one over, or past the 8,192 that a question holds.
+pub fn counts(draw: &mut Draw) -> String {
+    let mut text = String::new();
+    for (word, count) in [("rate", 3600), ("energy", 3606), ("ramp", 2), ("dreg", 4), ("edreg", 11), ("bands", 8192), ("factor", 8192)] {
+        for near in count - 1..=count + 2 {
+            ask_count(draw, &mut text, word, near);
+        }
+    }
+    for (word, shifts) in [("dreg", false), ("edreg", true), ("dreg_scores", false), ("edreg_frame", true)] {
+        let numbers = fit_hour(draw, shifts).numbers();
+        let place: &[i64] = if word.ends_with("frame") { &[1, 2] } else { &[] };
+        for short in [0, 1, 2] {
+            ask(draw, &mut text, word, &[place, &numbers[..numbers.len() - short]].concat());
+        }
+        ask(draw, &mut text, word, &[place, &numbers, &[0; 1][..]].concat());
+        ask(draw, &mut text, word, &[place, &numbers, &[0; 1000][..]].concat());
+    }
+    for (word, after) in [("rate", "12x 5\n"), ("bands", "12x\n"), ("nothing", "12x\n"), ("kilowatts", "")] {
+        ask_count(draw, &mut text, word, 8193);
+        text.push_str(after);
+    }
+    ask_lengthy(draw, &mut text);
+    text
+}
