@@ -1,0 +1,12 @@
+-- `asked::bytes::is_letter` meets its contract. Assumes nothing.
+use mathlib.Core.Path.{refl}
+use Rattle.asked.specs.Bytes.{isLetter}
+use Rattle.asked.proofs.bytes.is_letter.Statement.{statement}
+use Rattle.asked.proofs.bytes.is_letter.Tie as tie
+
+returns : tie.Need-returns
+unfolding isLetter
+returns c = refl
+
+pub is-letter-spec : {M : Type 1} → statement M
+is-letter-spec = tie.close (tie.spec returns)
