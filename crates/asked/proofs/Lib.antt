@@ -1,5 +1,7 @@
--- The laws that belong to no one function.
+-- The laws that belong to no one function; `pub` are those that crates above cite.
 mod Samples
 mod Sizes
-mod Reading
+pub mod Reading
+pub mod Cutting
+pub mod Contracts
 mod Determined

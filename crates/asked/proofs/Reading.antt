@@ -7,12 +7,11 @@ use mathlib.Core.Bool.{Bool, true, false}
 use mathlib.Core.List.{List, [], _∷_}
 use lib.IntN.{ℤ}
 use lib.ListN.{length, getD, drop, set, length-set}
-use borrow.Author.Tests.{lt-ltb, le-ltb}
-use Rattle.whole.proofs.Choice.{by-test, kept-any}
+use Rattle.whole.proofs.Choice.{by-test, clash, kept-any}
 use Rattle.whole.proofs.Runs.{rest, no-rest}
 use Rattle.asked.specs.Bytes.{parts}
 use Rattle.asked.specs.Tokens.{valueOf}
-use Rattle.asked.specs.Asking.{tokenFault, stored, begins, stepped, runStepped, takenIn, stateIn, runIn, endedIn}
+use Rattle.asked.specs.Asking.{tokenFault, stored, begins, stepped, runStepped, takenIn, stateIn, runIn, endedIn, nextOf}
 use Rattle.asked.specs.declared.Token.{Token}
 use Rattle.asked.specs.declared.State.{State}
 use Rattle.asked.specs.declared.Reached.{Reached}
@@ -37,6 +36,7 @@ length-stepped state b run =
 pub record Still (start : State) (chunk : List ℕ) (begun : List ℤ) (reached : State) (i : ℕ) (run : List ℤ) : Type 0 where
   pub state-is : stateIn start chunk ≡ stateIn reached (drop i chunk)
   pub taken-is : takenIn start chunk ≡ i + takenIn reached (drop i chunk)
+  pub ended-is : endedIn start chunk ≡ endedIn reached (drop i chunk)
   pub run-is : runIn start chunk begun ≡ runIn reached (drop i chunk) run
 
 module _ {start : State} {chunk : List ℕ} {begun : List ℤ} {reached : State} {i : ℕ} {run : List ℤ} (s : Still start chunk begun reached i run) where
@@ -49,6 +49,7 @@ module _ {start : State} {chunk : List ℕ} {begun : List ℤ} {reached : State}
       record {
         state-is = s .state-is ∙ rw (rest chunk i 0 h, e);
         taken-is = s .taken-is ∙ omega arith;
+        ended-is = s .ended-is ∙ rw (rest chunk i 0 h, e);
         run-is = s .run-is ∙ rw (rest chunk i 0 h, e);
       }
 
@@ -69,7 +70,8 @@ module _ {start : State} {chunk : List ℕ} {begun : List ℤ} {reached : State}
       let none : takenIn reached (drop i chunk) ≡ 0 = rw (rest chunk i 0 h, e) in
       let a : stateIn start chunk ≡ reached = s .state-is ∙ rw (rest chunk i 0 h, e) in
       let n : takenIn start chunk ≡ i = s .taken-is ∙ omega arith in
-      (rw (a, n, lt-ltb i (length chunk) h), sym (s .run-is ∙ rw (rest chunk i 0 h, e)))
+      let d : endedIn start chunk ≡ true = s .ended-is ∙ rw (rest chunk i 0 h, e) in
+      (rw (a, n, d), sym (s .run-is ∙ rw (rest chunk i 0 h, e)))
 
   -- no byte is left
   pub still-done : length chunk ≤ i → Stopped false
@@ -77,4 +79,35 @@ module _ {start : State} {chunk : List ℕ} {begun : List ℤ} {reached : State}
       let none : takenIn reached (drop i chunk) ≡ 0 = rw (no-rest chunk i h) in
       let a : stateIn start chunk ≡ reached = s .state-is ∙ rw (no-rest chunk i h) in
       let n : takenIn start chunk ≡ i = s .taken-is ∙ omega arith in
-      (rw (a, n, le-ltb i (length chunk) h), sym (s .run-is ∙ rw (no-rest chunk i h)))
+      let d : endedIn start chunk ≡ false = s .ended-is ∙ rw (no-rest chunk i h) in
+      (rw (a, n, d), sym (s .run-is ∙ rw (no-rest chunk i h)))
+
+-- ---- how far a chunk is read
+
+pub taken-within : (state : State) (chunk : List ℕ) → takenIn state chunk ≤ length chunk
+taken-within state [] = omega arith
+taken-within state (b ∷ bs) =
+    by-test (begins state b)
+    (λ (t : begins state b ≡ true). rw t (omega arith))
+    (λ (t : begins state b ≡ false). rw t (omega (arith, taken-within (stepped state b) bs)))
+
+-- a question that has ended leaves the byte that begins the next
+pub ended-left : (state : State) (chunk : List ℕ) → endedIn state chunk ≡ true → takenIn state chunk < length chunk
+ended-left state [] h = clash h
+ended-left state (b ∷ bs) h =
+    by-test (begins state b)
+    (λ (t : begins state b ≡ true). rw t (omega arith))
+    (λ (t : begins state b ≡ false). rw t (omega (arith, ended-left (stepped state b) bs (rw t at h))))
+
+pub all-taken : (state : State) (chunk : List ℕ) → endedIn state chunk ≡ false → takenIn state chunk ≡ length chunk
+all-taken state [] h = refl
+all-taken state (b ∷ bs) h =
+    by-test (begins state b)
+    (λ (t : begins state b ≡ true). clash (sym (rw t at h)))
+    (λ (t : begins state b ≡ false). rw t (ap suc (all-taken (stepped state b) bs (rw t at h))))
+
+-- the next question takes its first byte: the reading goes on
+pub next-takes : (state : State) (chunk : List ℕ) → 0 < length chunk → 0 < takenIn (nextOf state) chunk
+unfolding nextOf begins
+next-takes state [] h = absurd (omega arith)
+next-takes state (b ∷ bs) h = omega arith

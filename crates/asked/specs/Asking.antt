@@ -106,7 +106,8 @@ runIn state [] run = run
 runIn state (b ∷ bs) run = pick (begins state b) run (runIn (stepped state b) bs (runStepped state b run))
 
 abbrev pub endedIn : State → List ℕ → Bool
-endedIn state chunk = ltb (takenIn state chunk) (length chunk)
+endedIn state [] = false
+endedIn state (b ∷ bs) = pick (begins state b) true (endedIn (stepped state b) bs)
 
 -- a run of any other length is refused with 1, and then nothing is changed
 abbrev pub fits : List ℤ → Bool

@@ -15,7 +15,7 @@ abbrev μ-loop : tie.MeasureT-loop
 μ-loop chunk numbers₀ reached₀ i₀ numbers reached i = length chunk - i
 
 loop-holds : tie.Need-loop-holds Inv-loop μ-loop
-loop-holds c = (omega arith, refl, record { state-is = refl; taken-is = omega arith; run-is = refl })
+loop-holds c = (omega arith, refl, record { state-is = refl; taken-is = omega arith; ended-is = refl; run-is = refl })
 
 shared-slice-read-b : tie.Need-shared-slice-read-b Inv-loop μ-loop
 shared-slice-read-b c = omega arith
