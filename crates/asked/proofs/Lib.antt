@@ -3,5 +3,9 @@ mod Samples
 mod Sizes
 pub mod Reading
 pub mod Cutting
+pub mod Bounds
+mod Places
+mod Growing
+pub mod Written
 pub mod Contracts
 mod Determined

@@ -1,15 +1,14 @@
 -- How large a letter's place, a digit and a number that passed its tests are. By the tests. Assumes nothing.
 use Prim.Native.Nat.{ℕ, _≤_, _<_, _-_}
 use native.Mathlib.Omega.{arith}
-use mathlib.Core.Path.{_≡_, refl, sym, ap, _∙_}
+use mathlib.Core.Path.{_≡_, refl, sym, _∙_}
 use mathlib.Core.Bool.{Bool, true, false, _&&_, _||_}
 use lib.Dec.{eqb, leb, ltb}
-use lib.IntN.{pos}
-use borrow.Author.Tests.{leb-true, leb-false, ltb-true, eqb-true}
-use Rattle.whole.specs.Choice.{pick, unless}
+use borrow.Author.Tests.{leb-true, ltb-true, eqb-true}
+use Rattle.whole.specs.Choice.{unless}
 use Rattle.whole.proofs.Choice.{clash, by-test, and-both, passed, both-passed}
 use Rattle.asked.specs.Bytes.{isLetter, letterOf, isDigit, digitOf}
-use Rattle.asked.specs.Tokens.{faultOf}
+use Rattle.asked.specs.Tokens.{limit, faultOf}
 use Rattle.asked.specs.Asking.{mostNumbers, asking, tokenFault, named}
 use Rattle.asked.specs.declared.Asked.{Asked}
 use Rattle.asked.specs.declared.Token.{Token}
@@ -32,12 +31,19 @@ letter-small b h =
     (λ (u : eqb b 95 ≡ false). omega (arith, leb-true b 122 (and-both (leb 97 b) (leb b 122) (either (leb 97 b && leb b 122) (eqb b 95) h u) .1)))))
     (λ (t : leb 97 b ≡ false). rw t (omega arith))
 
--- a number that has no fault
-pub number-small : (token : Token) (size : ℕ) → faultOf token ≡ 0 → token ≡ Number size → size < 9223372036854775808
-number-small token size h e = ltb-true size 9223372036854775808 (passed (ltb size 9223372036854775808) 101 0 (rw e at h) .0)
+pub letter-some : (b : ℕ) → isLetter b ≡ true → 1 ≤ letterOf b
+unfolding letterOf
+letter-some b h =
+    by-test (leb 97 b)
+    (λ (t : leb 97 b ≡ true). rw t (omega (arith, leb-true 97 b t)))
+    (λ (t : leb 97 b ≡ false). rw t (omega arith))
 
-pub below-small : (token : Token) (size : ℕ) → faultOf token ≡ 0 → token ≡ Below size → size ≤ 9223372036854775808
-below-small token size h e = leb-true size 9223372036854775808 (passed (leb size 9223372036854775808) 101 0 (rw e at h) .0)
+-- a number that has no fault
+pub number-small : (token : Token) (size : ℕ) → faultOf token ≡ 0 → token ≡ Number size → size < limit
+number-small token size h e = ltb-true size limit (passed (ltb size limit) 101 0 (rw e at h) .0)
+
+pub below-small : (token : Token) (size : ℕ) → faultOf token ≡ 0 → token ≡ Below size → size ≤ limit
+below-small token size h e = leb-true size limit (passed (leb size limit) 101 0 (rw e at h) .0)
 
 -- a number that is kept has no fault, and finds room
 pub kept-fault : (count : ℕ) (token : Token) → tokenFault count token ≡ 0 → faultOf token ≡ 0

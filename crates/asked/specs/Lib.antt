@@ -3,3 +3,4 @@ pub mod Bytes
 pub mod Tokens
 pub mod Asking
 pub mod Questions
+pub mod Written

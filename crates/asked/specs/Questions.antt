@@ -33,7 +33,7 @@ unfoldable pub lastQuestion : State → List ℤ → List Question
 lastQuestion state numbers =
     pick (lastState state .asked .opened) (questionOf (lastState state .asked) (numbersWith (state .asked .count) (state .token) numbers) ∷ []) []
 
--- the questions from a state on, its numbers so far given
+-- the questions from a state on, its numbers so far given (`let`: the rest is not computed where no question ends)
 abbrev pub questionsFrom : State → List ℤ → List ℕ → List Question
 questionsFrom state numbers [] = lastQuestion state numbers
 questionsFrom state numbers (b ∷ bs) =

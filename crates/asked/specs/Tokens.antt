@@ -1,5 +1,5 @@
 -- Desk rule, "Reading": a token, byte by byte, and what it is once it has ended.
-use Prim.Native.Nat.{ℕ, _+_, _*_, _^_, min}
+use Prim.Native.Nat.{ℕ, _+_, _*_, min}
 use mathlib.Core.Bool.{Bool, true, false, _||_}
 use lib.Dec.{eqb, ltb, leb}
 use lib.IntN.{ℤ, pos}
@@ -29,7 +29,11 @@ notNumber = 105
 abbrev pub noWord : ℕ
 noWord = 1152921504606846976
 
--- past 2^63 a number is too large, whatever follows: sizes are counted up to here
+-- 2^63
+abbrev pub limit : ℕ
+limit = 9223372036854775808
+
+-- past it a number is too large, whatever follows: sizes are counted up to here
 abbrev pub mostSize : ℕ
 mostSize = 9223372036854775809
 
@@ -90,8 +94,8 @@ faultOf Between = notNumber
 faultOf Comment = notNumber
 faultOf (Word code) = notNumber
 faultOf Sign = notNumber
-faultOf (Number size) = unless (ltb size 9223372036854775808) tooLarge 0
-faultOf (Below size) = unless (leb size 9223372036854775808) tooLarge 0
+faultOf (Number size) = unless (ltb size limit) tooLarge 0
+faultOf (Below size) = unless (leb size limit) tooLarge 0
 faultOf Other = notNumber
 
 abbrev pub valueOf : Token → ℤ

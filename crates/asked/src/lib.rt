@@ -2,7 +2,7 @@
 // What a question means is not known here.
 ghost use mathlib.Core.Path.{_≡_};
 ghost use lib.ListN.{length};
-ghost use Rattle.asked.specs.Asking.{mostNumbers, startState, named, asking, faulted, tokenFault, oneMore, joined, finished, stored, lineAfter, begins, stepped, runStepped, takenIn, stateIn, runIn, endedIn, readOf, readRun, lastState, endOf, endRun, nextOf, nothing};
+ghost use Rattle.asked.specs.Asking.{mostNumbers, startState, named, asking, faulted, tokenFault, joined, finished, stored, lineAfter, begins, stepped, runStepped, takenIn, stateIn, runIn, endedIn, readOf, readRun, endOf, endRun, nextOf, nothing};
 use units::refusals;
 
 mod bytes;

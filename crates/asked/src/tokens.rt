@@ -3,7 +3,7 @@ ghost use mathlib.Core.Path.{_≡_};
 ghost use Prim.Native.Nat.{_≤_};
 ghost use mathlib.Core.Bool.{true};
 ghost use Rattle.whole.specs.Whole.{minus};
-ghost use Rattle.asked.specs.Bytes.{isDigit, isLetter};
+ghost use Rattle.asked.specs.Bytes.{isDigit};
 ghost use Rattle.asked.specs.Tokens.{spelled, counted, numbered, lowered, begun, grown, isBetween, isComment, after, faultOf, valueOf};
 use crate::Token;
 use crate::bytes;

@@ -1,6 +1,6 @@
 -- `asked::end` meets its contract, by its one test. Assumes nothing.
 use borrow.Author.Needs.{needs}
-use mathlib.Core.Path.{refl, sym, _∙_}
+use mathlib.Core.Path.{refl}
 use borrow.Author.Tests.{eq-eqb, ne-eqb}
 use Rattle.asked.specs.Asking.{endOf, endRun, lastState}
 use Rattle.asked.proofs.end.Statement.{statement}

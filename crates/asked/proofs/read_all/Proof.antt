@@ -27,10 +27,14 @@ same-length : tie.Need-same-length Inv-loop μ-loop
 same-length c = c .before .before .before .before .loop .inv .1
 
 returns : tie.Need-returns Inv-loop μ-loop
-returns c = let t = c .before .before .before in still-stops (t .before .loop .inv .2) (t .loop-test .taken) (sym (c .before .begins .ensures) ∙ c .if1 .taken)
+returns c =
+    let t = c .before .before .before in
+    still-stops (t .before .loop .inv .2) (t .loop-test .taken) (sym (c .before .begins .ensures) ∙ c .if1 .taken)
 
 store-step-requires : tie.Need-store-step-requires Inv-loop μ-loop
-store-step-requires c κs = let t = c .before .before .before .before in t .before .loop .inv .1 ∙ t .before .before .before .pre
+store-step-requires c κs =
+    let t = c .before .before .before .before in
+    t .before .loop .inv .1 ∙ t .before .before .before .pre
 
 stepped-requires : tie.Need-stepped-requires Inv-loop μ-loop
 stepped-requires c κs = tt
@@ -42,7 +46,12 @@ loop-less : tie.Need-loop-less Inv-loop μ-loop
 loop-less c = omega arith
 
 loop-again : tie.Need-loop-again Inv-loop μ-loop
-loop-again c = let e = c .before .before .before .before in let t = e .before .before .before in let l = t .before .loop in let stored = c .before .before .store-step .ensures in (omega arith, ap length stored ∙ length-stepped _ _ _ ∙ l .inv .1, rw (stored, c .stepped .ensures) (still-next (l .inv .2) (t .loop-test .taken) (sym (e .before .begins .ensures) ∙ e .if1 .left)))
+loop-again c =
+    let e = c .before .before .before .before in
+    let t = e .before .before .before in
+    let l = t .before .loop in
+    let stored = c .before .before .store-step .ensures in
+    (omega arith, ap length stored ∙ length-stepped _ _ _ ∙ l .inv .1, rw (stored, c .stepped .ensures) (still-next (l .inv .2) (t .loop-test .taken) (sym (e .before .begins .ensures) ∙ e .if1 .left)))
 
 same-length-2 : tie.Need-same-length-2 Inv-loop μ-loop
 same-length-2 c = c .before .loop .inv .1

@@ -19,7 +19,9 @@ line-after-requires c κs = search needs
 
 returns : tie.Need-returns
 unfolding stepped
-returns c = let t = c .before .before .before in rw (sym (t .before .parts .ensures) ∙ t .if1 .taken, c .before .before .finished .ensures, c .before .after .ensures, c .line-after .ensures)
+returns c =
+    let t = c .before .before .before in
+    rw (sym (t .before .parts .ensures) ∙ t .if1 .taken, c .before .before .finished .ensures, c .before .after .ensures, c .line-after .ensures)
 
 grown-requires : tie.Need-grown-requires
 grown-requires c κs = search needs

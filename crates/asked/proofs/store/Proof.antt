@@ -17,17 +17,23 @@ value-of-requires : tie.Need-value-of-requires
 value-of-requires c κs = kept-fault _ _ (sym (c .before .token-fault .ensures) ∙ c .if1 .taken)
 
 mul-t7 : tie.Need-mul-t7
-mul-t7 c = let t = c .before in omega (arith, kept-room _ _ (sym (t .before .token-fault .ensures) ∙ t .if1 .taken))
+mul-t7 c =
+    let t = c .before in
+    omega (arith, kept-room _ _ (sym (t .before .token-fault .ensures) ∙ t .if1 .taken))
 
 slice-set-from-numbers : tie.Need-slice-set-from-numbers
-slice-set-from-numbers c = let t = c .before in omega (arith, kept-room _ _ (sym (t .before .token-fault .ensures) ∙ t .if1 .taken))
+slice-set-from-numbers c =
+    let t = c .before in
+    omega (arith, kept-room _ _ (sym (t .before .token-fault .ensures) ∙ t .if1 .taken))
 
 same-length : tie.Need-same-length
 same-length c = search needs
 
 returns : tie.Need-returns
 unfolding stored
-returns c = let t = c .before in rw (eq-eqb _ _ (sym (t .before .token-fault .ensures) ∙ t .if1 .taken), back w64 (c .value-of .ok) (c .value-of .ensures))
+returns c =
+    let t = c .before in
+    rw (eq-eqb _ _ (sym (t .before .token-fault .ensures) ∙ t .if1 .taken), back w64 (c .value-of .ok) (c .value-of .ensures))
 
 returns-2 : tie.Need-returns-2
 unfolding stored

@@ -16,7 +16,9 @@ same-length c = search needs
 
 returns : tie.Need-returns
 unfolding runStepped
-returns c = let t = c .before .before .before in rw (sym (t .before .parts .ensures) ∙ t .if1 .taken) (c .before .store .ensures)
+returns c =
+    let t = c .before .before .before in
+    rw (sym (t .before .parts .ensures) ∙ t .if1 .taken) (c .before .store .ensures)
 
 returns-2 : tie.Need-returns-2
 unfolding runStepped

@@ -25,7 +25,9 @@ numbered-requires c κs = search needs
 
 returns-3 : tie.Need-returns-3
 unfolding begun
-returns-3 c = let t = c .before .before in rw (sym (t .before .is-letter .ensures) ∙ t .if1 .left, ne-eqb _ _ (c .before .if2 .left)) (c .numbered .ensures)
+returns-3 c =
+    let t = c .before .before in
+    rw (sym (t .before .is-letter .ensures) ∙ t .if1 .left, ne-eqb _ _ (c .before .if2 .left)) (c .numbered .ensures)
 
 pub begun-spec : {M : Type 1} → statement M
 begun-spec =

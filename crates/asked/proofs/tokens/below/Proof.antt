@@ -18,7 +18,9 @@ sub-result : tie.Need-sub-result
 sub-result c = omega (signed, bits-pos (cast-v c), opposite (pos (c .before .args .size)))
 
 returns-2 : tie.Need-returns-2
-returns-2 c = let s = sub-result c in omega (signed, bits-pos (cast-v c), opposite (pos (c .before .args .size)))
+returns-2 c =
+    let s = sub-result c in
+    omega (signed, bits-pos (cast-v c), opposite (pos (c .before .args .size)))
 
 pub below-spec : {M : Type 1} → statement M
 below-spec = tie.close (tie.spec returns sub-v cast-v sub-result returns-2)

@@ -1,6 +1,5 @@
 -- `asked::tokens::grown` meets its contract: by the sort of the token. Assumes nothing.
 use borrow.Author.Needs.{needs}
-use mathlib.Core.Path.{_∙_}
 use Rattle.asked.proofs.tokens.grown.Statement.{statement}
 use Rattle.asked.proofs.tokens.grown.Tie as tie
 

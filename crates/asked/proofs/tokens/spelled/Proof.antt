@@ -24,7 +24,10 @@ add-result c = search needs
 
 returns : tie.Need-returns
 unfolding spelled
-returns c = let t = c .before .before in let l = sym (t .before .is-letter .ensures) ∙ t .if1 .taken in rw l (omega (arith, c .letter-of .ensures, letter-small (t .before .before .args .b) l))
+returns c =
+    let t = c .before .before in
+    let l = sym (t .before .is-letter .ensures) ∙ t .if1 .taken in
+    rw l (omega (arith, c .letter-of .ensures, letter-small (t .before .before .args .b) l))
 
 returns-2 : tie.Need-returns-2
 unfolding spelled

@@ -23,7 +23,10 @@ enum-known-token : tie.Need-enum-known-token
 enum-known-token c = search needs
 
 cast-result : tie.Need-cast-result
-cast-result c = let t = c .before in let n = number-small _ _ (t .before .before .pre) (t .token .given .1) in omega signed
+cast-result c =
+    let t = c .before in
+    let n = number-small _ _ (t .before .before .pre) (t .token .given .1) in
+    omega signed
 
 enum-known-token-2 : tie.Need-enum-known-token-2
 enum-known-token-2 c = search needs
