@@ -1,0 +1,96 @@
+#!/usr/bin/env python3
+"""Makes this crate's stdin and stdout, and the sample hour with its answer (samples/hour, samples/hour.answers).
+
+What is answered comes from the model beside the papers' figures (crates/figures/expected.py), which works in exact fractions and shares nothing with the Rattle
+code; the lines of the form's faults are written out by hand."""
+import contextlib
+import importlib.util
+import io
+import os
+import random
+
+HERE = os.path.dirname(os.path.abspath(__file__))
+ROOT = os.path.dirname(os.path.dirname(HERE))
+spec = importlib.util.spec_from_file_location("expected", os.path.join(ROOT, "crates/figures/expected.py"))
+model = importlib.util.module_from_spec(spec)
+with contextlib.redirect_stdout(io.StringIO()):
+    spec.loader.exec_module(model)
+
+
+def words(*numbers):
+    return " ".join(str(n) for n in numbers)
+
+
+def frame(kind, day, hour, amount):
+    body = bytes([kind, day, hour]) + (amount % 2**64).to_bytes(8, "big")
+    return (body + bytes([sum(body) % 256])).hex().upper()
+
+
+# ---- the sample hour: a frequency that wanders, a power that follows the curve and stumbles for three seconds
+
+CAPACITY, CLEARING, PERFORMANCE = 10000, 44000, 35000
+draw = random.Random(2210)
+powers, frequencies, f = [], [], 60000
+for second in range(3600):
+    f = min(60240, max(59760, f + draw.randint(-6, 6)))
+    _, upper, lower = model.curve(f)
+    middle = (upper + lower) * CAPACITY // 200
+    frequencies.append(f)
+    powers.append(0 if 1800 <= second < 1803 else middle + draw.randint(-400, 400))
+bands = [n for pair in model.LIST_S for n in pair]
+terms = (CAPACITY, CLEARING, PERFORMANCE, 0, 0, [0] * 5)
+settled, scores = model.hour(powers, frequencies, [0] * 3600, terms, model.THRESHOLDS, model.FACTORS)
+columns = "".join(f"{p} {f}\n" for p, f in zip(powers, frequencies))
+hour = f"{words(CAPACITY, CLEARING, PERFORMANCE)}\n{len(model.LIST_S)} {words(*bands)}\n{columns}"
+
+with open(os.path.join(ROOT, "samples/hour"), "w") as out:
+    out.write("# A dReg hour of 10,000 kW at 440 and 350 dollars a MW, with list S; then a line a second: the power of second t in kW and the frequency of\n")
+    out.write("# second t-1 in mHz.\n")
+    out.write("dreg " + hour)
+with open(os.path.join(ROOT, "samples/hour.answers"), "w") as out:
+    out.write(words(*settled) + "\n")
+
+# ---- this crate's run: each question once, the papers' figures where they have one, and each fault
+
+asked = [
+    ("kilowatts 5", words(0, 5000)),
+    ("curve 59920", words(*model.curve(59920))),
+    ("curve 54999", words(4, 0, 0)),
+    ("score 5100 5000 10000 60000", words(0, model.score(5100, 5000, 10000, 60000))),
+    ("ramp 0 5000", words(0, *(model.planned(0, 5000, n) for n in range(1, 901)))),
+    ("ramp 0 100001", "10"),
+    ("rate " + "100 " * 3596 + "94,94,94,94", words(0, 94)),
+    ("bands 95 10 0 -10", "0"),
+    ("bands", "5"),
+    ("factor 94 " + words(*bands), words(0, 8)),
+    ("fee 44300 10000", words(0, 4430)),
+    ("quality 4400 3500 8", words(*model.quality(4400, 3500, 8))),
+    ("energy 200000 50000 5000 -5000 0 5000 " + "5000 " * 3600, words(*model.energy([5000] * 3600, [5000, -5000, 0, 5000], 200000, 50000))),
+    ("loss 120000 84000 22800 40000", words(0, 151200, 100800, 252000)),
+    ("dreg " + hour, words(*settled)),
+    ("edreg " + words(CAPACITY, CLEARING, PERFORMANCE, 0, 0, 0, 0, 0, 0, 0) + hour[len(words(CAPACITY, CLEARING, PERFORMANCE)) :], words(*settled)),
+    ("dreg_scores " + hour, words(0, *scores)),
+    ("frame 0 31 0 0", frame(0, 31, 0, 0)),
+    ("dreg_frame 12 14 " + hour, frame(1, 12, 14, settled[7])),
+    ("frame 6 0 0 0", "13"),
+    ("frame 1 256 0 0", "6"),
+]
+faults = [
+    ("curve", "103 too few numbers"),
+    ("curve 1 2", "104 too many numbers"),
+    ("curves 59920", "101 not a question"),
+    ("fee 9223372036854775808 1", "102 a number too large for 64 bits"),
+    ("curve 59.92", "105 not a number"),
+]
+text, answers = "# each question once\n", []
+for question, answer in asked:
+    text += question.rstrip("\n") + "\n"
+    answers.append(answer)
+text += "# and each fault\r\n"
+for question, answer in faults:
+    answers.append(f"line {text.count(chr(10)) + 1}: {answer}")
+    text += question + "\n"
+with open(os.path.join(HERE, "stdin"), "w", newline="") as out:
+    out.write(text)
+with open(os.path.join(HERE, "stdout"), "w") as out:
+    out.write("".join(answer + "\n" for answer in answers))

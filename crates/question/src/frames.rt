@@ -1,0 +1,81 @@
+// The questions that print a frame.
+ghost use Prim.Native.Nat.{_≤_};
+ghost use mathlib.Core.Path.{_≡_};
+ghost use lib.ListN.{length};
+ghost use Rattle.text.specs.Text.{put};
+ghost use Rattle.question.specs.Frames.{framed, frameAsked, hourFrame};
+ghost use Rattle.question.specs.Lines.{room, frameText};
+use crate::Framed;
+use crate::hours;
+use crate::lines;
+use crate::rules;
+use frame::Entry;
+use frame::kinds;
+use units::Dollars;
+use units::refusals;
+
+// A frame, after the number of a refusal that comes before its own: 13, 6.
+fn framed(before: u8, kind: i64, day: i64, hour: i64, amount: i64) -> Framed
+    ensures { λ r. ⌜ r ≡ framed before kind day hour amount ⌝ }
+{
+    let place = whole::unless(
+        whole::within(day, 0, 255) & whole::within(hour, 0, 255),
+        refusals::NOT_IN_MONTH,
+        0,
+    );
+    let form = whole::unless(whole::within(kind, 0, 255), refusals::BAD_KIND, place);
+    let k = whole::or_else(before, form);
+    Framed {
+        refusal: k,
+        entry: Entry {
+            kind: rules::byte_of(kind),
+            day: rules::byte_of(day),
+            hour: rules::byte_of(hour),
+            amount: Dollars(amount),
+        },
+    }
+}
+
+pub(crate) fn asked(numbers: &[i64]) -> Framed
+    ensures { λ r. ⌜ r ≡ frameAsked (now (numbers .entry)) ⌝ }
+{
+    framed(
+        0,
+        whole::at(numbers, 0),
+        whole::at(numbers, 1),
+        whole::at(numbers, 2),
+        whole::at(numbers, 3),
+    )
+}
+
+// The frame that posts an hour's amount.
+pub(crate) fn of_hour(shifting: bool, numbers: &[i64]) -> Framed
+    ensures { λ r. ⌜ r ≡ hourFrame shifting (now (numbers .entry)) ⌝ }
+{
+    let mut scores = [0u8; 3600];
+    let settled = hours::settle(shifting, numbers, 2, &mut scores);
+    let amount = settled.amount;
+    framed(
+        settled.refusal,
+        kinds::POST as i64,
+        whole::at(numbers, 0),
+        whole::at(numbers, 1),
+        amount.0,
+    )
+}
+
+// Its 24 digits, or the refusal alone.
+pub(crate) fn put_frame(framed: Framed, out: &mut [u8]) -> usize
+    requires { ⌜ room ≤ length (now out) ⌝ }
+    ensures place { λ r. ⌜ r ≡ length (frameText framed) ⌝ }
+    ensures text { λ r. ⌜ now (out .exit) ≡ put (now (out .entry)) 0 (frameText framed) ⌝ }
+{
+    let mut line = [b'\n'; 25];
+    let entry = framed.entry;
+    let writer = frame::write_frame(entry, &mut line[..24]);
+    let k = whole::or_else(framed.refusal, writer);
+    if k == 0 {
+        return text::put(out, 0, &line);
+    }
+    lines::put_alone(k, out)
+}
