@@ -2,7 +2,7 @@
 use Prim.Native.Nat.{ℕ}
 use mathlib.Core.Path.{_≡_}
 use mathlib.Core.Bool.{true, false}
-use mathlib.Core.List.{List, [], _∷_}
+use mathlib.Core.List.{List, [], _∷_, _++_}
 use native.Mathlib.Omega.{arith}
 use lib.Dec.{eqb, ltb}
 use lib.IntN.{ℤ}
@@ -21,6 +21,17 @@ module _ (P : Question → Type 0) (word : ℕ) where
   each (q ∷ qs) p =
       by-test (eqb word (q .word)) (λ (t : eqb word (q .word) ≡ true). rw t (p .0 (eqb-true word (q .word) t)))
       (λ (t : eqb word (q .word) ≡ false). rw t (each qs (p .1)))
+
+  -- a table, then another
+  abbrev pub EachThen : List Question → Question → Type 0
+  EachThen [] rest = P rest
+  EachThen (q ∷ qs) rest = (word ≡ q .word → P q) × EachThen qs rest
+
+  pub each-then : (qs rest : List Question) → EachThen qs (find rest word) → P (find (qs ++ rest) word)
+  each-then [] rest p = p
+  each-then (q ∷ qs) rest p =
+      by-test (eqb word (q .word)) (λ (t : eqb word (q .word) ≡ true). rw t (p .0 (eqb-true word (q .word) t)))
+      (λ (t : eqb word (q .word) ≡ false). rw t (each-then qs rest (p .1)))
 
 -- so many numbers are counted
 pub counted-exactly : (many : ℕ) (n : List ℤ) → exactly many n ≡ 0 → length n ≡ many

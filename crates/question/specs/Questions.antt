@@ -2,7 +2,7 @@
 use Prim.Native.Nat.{ℕ, _+_, _*_, _%_}
 use Prim.Native.String as text
 use mathlib.Core.Bool.{true, false, not, _&&_}
-use mathlib.Core.List.{List, [], _∷_}
+use mathlib.Core.List.{List, [], _∷_, _++_}
 use lib.Dec.{eqb, ltb}
 use lib.IntN.{ℤ}
 use lib.ListN.{length}
@@ -42,8 +42,9 @@ pairsAfter one n = unless (eqb (length n % 2) one) tooFew 0
 unfoldable pub hourly : ℕ → List ℤ → ℕ
 hourly place n = exactly (place + 1 + 2 * pairsSaid (number n place) + 7200) n
 
-abbrev pub questions : List Question
-questions =
+-- those of one rule
+abbrev pub rules : List Question
+rules =
     question "kilowatts" (exactly 1) (Answer.few kilowattsReply)
     ∷ question "curve" (exactly 1) (Answer.few curveReply)
     ∷ question "score" (exactly 4) (Answer.few scoreReply)
@@ -55,7 +56,12 @@ questions =
     ∷ question "quality" (exactly 3) (Answer.few qualityReply)
     ∷ question "energy" (exactly 3606) (Answer.few energyReply)
     ∷ question "loss" (exactly 4) (Answer.few lossReply)
-    ∷ question "dreg" (hourly 3) (Answer.few (hourReply false))
+    ∷ []
+
+-- those of a whole hour, and of a frame
+abbrev pub hours : List Question
+hours =
+    question "dreg" (hourly 3) (Answer.few (hourReply false))
     ∷ question "edreg" (hourly 10) (Answer.few (hourReply true))
     ∷ question "dreg_scores" (hourly 3) (Answer.run (scoresReply false))
     ∷ question "edreg_scores" (hourly 10) (Answer.run (scoresReply true))
@@ -63,6 +69,9 @@ questions =
     ∷ question "edreg_frame" (hourly 12) (Answer.frame (hourFrame true))
     ∷ question "frame" (exactly 4) (Answer.frame frameAsked)
     ∷ []
+
+abbrev pub questions : List Question
+questions = rules ++ hours
 
 -- any other word
 abbrev pub unknown : Question

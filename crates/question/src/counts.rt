@@ -1,7 +1,7 @@
 // How many numbers a question takes: 103 for too few, 104 for too many, 101 for a word that names no question.
 ghost use Prim.Native.Nat.{_≤_};
 ghost use mathlib.Core.Path.{_≡_};
-ghost use Rattle.question.specs.Questions.{exactly, pairsAfter, hourly, questionOf};
+ghost use Rattle.question.specs.Questions.{exactly, pairsAfter, hourly, hours, find, questionOf};
 use crate::hours;
 use crate::words;
 
@@ -70,6 +70,13 @@ pub(crate) fn counted(word: u64, numbers: &[i64]) -> u8
     if word == words::LOSS {
         return exactly(4, numbers);
     }
+    counted_hour(word, numbers)
+}
+
+// That of an hour, or of a frame.
+fn counted_hour(word: u64, numbers: &[i64]) -> u8
+    ensures { λ r. ⌜ r ≡ find hours word .counted (now (numbers .entry)) ⌝ }
+{
     if word == words::DREG {
         return hourly(3, numbers);
     }

@@ -6,7 +6,7 @@ ghost use Rattle.text.specs.Text.{put};
 ghost use Rattle.question.specs.Rules.{boxed, rampReply};
 ghost use Rattle.question.specs.Hours.{scoresReply};
 ghost use Rattle.question.specs.Lines.{room, lineText, faultText, answered, printed};
-ghost use Rattle.question.specs.Questions.{questionOf, fewOf, textOf, answerText, replyText};
+ghost use Rattle.question.specs.Questions.{hours, find, questionOf, fewOf, textOf, answerText, replyText};
 use frame::Entry;
 use units::Kilowatts;
 use units::refusals;
@@ -78,6 +78,13 @@ fn fields_of(word: u64, numbers: &[i64]) -> Fields
     if word == words::LOSS {
         return rules::loss(numbers);
     }
+    hour_fields(word, numbers)
+}
+
+// Those of a whole hour; no other has any.
+fn hour_fields(word: u64, numbers: &[i64]) -> Fields
+    ensures { λ r. ⌜ r ≡ boxed (fewOf (find hours word .answer) (now (numbers .entry))) ⌝ }
+{
     if word == words::DREG {
         return hours::fields(false, numbers);
     }

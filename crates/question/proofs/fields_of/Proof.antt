@@ -1,11 +1,9 @@
--- `question::fields_of` meets its contract: the question of each word is found by computing, and any other has no few fields. Assumes nothing.
+-- `question::fields_of` meets its contract: the question of each word is found by computing, and any other is an hour's or has none. Assumes nothing.
 use borrow.Author.Needs.{needs}
-use mathlib.Core.Path.{_≡_, refl}
-use lib.IntN.{pos}
-use lib.ListN.{replicate}
+use mathlib.Core.Path.{_≡_}
 use Rattle.question.specs.Rules.{boxed}
-use Rattle.question.specs.Questions.{Question, questions, questionOf, fewOf}
-use Rattle.question.proofs.Table.{each, counted-exactly}
+use Rattle.question.specs.Questions.{Question, rules, hours, questionOf, fewOf}
+use Rattle.question.proofs.Table.{each-then, counted-exactly}
 use Rattle.question.proofs.fields_of.Statement.{statement}
 use Rattle.question.proofs.fields_of.Tie as tie
 
@@ -81,26 +79,16 @@ returns-10 : tie.Need-returns-10
 unfolding questionOf
 returns-10 c = rw (c .before .if10 .taken) (c .loss .ensures)
 
-fields-requires : tie.Need-fields-requires
-fields-requires c κs = search needs
+hour-fields-requires : tie.Need-hour-fields-requires
+hour-fields-requires c κs = search needs
 
 returns-11 : tie.Need-returns-11
 unfolding questionOf
-returns-11 c = rw (c .before .if11 .taken) (c .fields .ensures)
-
-fields-requires-2 : tie.Need-fields-requires-2
-fields-requires-2 c κs = search needs
-
-returns-12 : tie.Need-returns-12
-unfolding questionOf
-returns-12 c = rw (c .before .if12 .taken) (c .fields2 .ensures)
-
-returns-13 : tie.Need-returns-13
-unfolding questionOf
-returns-13 c =
-    let a = c .before .before .before .before .before .before .before .before .before .before .before .before .args in
-    each (λ (q : Question). record { refusal = 0; count = 0; values = replicate 7 (pos 0) } ≡ boxed (fewOf (q .answer) (a .numbers .now))) (a .word) questions
-    (λ h. absurd (c .before .before .before .before .before .before .before .before .before .before .before .if1 .left h), (λ h. absurd (c .before .before .before .before .before .before .before .before .before .before .if2 .left h), (λ h. absurd (c .before .before .before .before .before .before .before .before .before .if3 .left h), (λ _. refl, (λ h. absurd (c .before .before .before .before .before .before .before .before .if4 .left h), (λ h. absurd (c .before .before .before .before .before .before .before .if5 .left h), (λ h. absurd (c .before .before .before .before .before .before .if6 .left h), (λ h. absurd (c .before .before .before .before .before .if7 .left h), (λ h. absurd (c .before .before .before .before .if8 .left h), (λ h. absurd (c .before .before .before .if9 .left h), (λ h. absurd (c .before .before .if10 .left h), (λ h. absurd (c .before .if11 .left h), (λ h. absurd (c .if12 .left h), (λ _. refl, (λ _. refl, (λ _. refl, (λ _. refl, (λ _. refl, refl))))))))))))))))))
+returns-11 c =
+    let e = c .before in
+    let a = e .before .before .before .before .before .before .before .before .before .before .args in
+    each-then (λ (q : Question). c .hour-fields .result ≡ boxed (fewOf (q .answer) (a .numbers .now))) (a .word) rules hours
+    (λ h. absurd (e .before .before .before .before .before .before .before .before .before .if1 .left h), (λ h. absurd (e .before .before .before .before .before .before .before .before .if2 .left h), (λ h. absurd (e .before .before .before .before .before .before .before .if3 .left h), (λ h. rw h at (c .hour-fields .ensures), (λ h. absurd (e .before .before .before .before .before .before .if4 .left h), (λ h. absurd (e .before .before .before .before .before .if5 .left h), (λ h. absurd (e .before .before .before .before .if6 .left h), (λ h. absurd (e .before .before .before .if7 .left h), (λ h. absurd (e .before .before .if8 .left h), (λ h. absurd (e .before .if9 .left h), (λ h. absurd (e .if10 .left h), c .hour-fields .ensures)))))))))))
 
 pub fields-of-spec : {M : Type 1} → statement M
 fields-of-spec =
@@ -126,8 +114,5 @@ fields-of-spec =
     returns-9
     loss-requires
     returns-10
-    fields-requires
-    returns-11
-    fields-requires-2
-    returns-12
-    returns-13)
+    hour-fields-requires
+    returns-11)

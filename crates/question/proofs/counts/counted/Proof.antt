@@ -1,8 +1,8 @@
--- `question::counts::counted` meets its contract: the question of each word is found by computing, and of any other word there is none. Assumes nothing.
+-- `question::counts::counted` meets its contract: the question of each word is found by computing, and any other is an hour's or none. Assumes nothing.
 use borrow.Author.Needs.{needs}
 use mathlib.Core.Path.{_≡_, refl}
-use Rattle.question.specs.Questions.{questions, questionOf}
-use Rattle.question.proofs.Table.{each}
+use Rattle.question.specs.Questions.{Question, rules, hours, questionOf}
+use Rattle.question.proofs.Table.{each-then}
 use Rattle.question.proofs.counts.counted.Statement.{statement}
 use Rattle.question.proofs.counts.counted.Tie as tie
 
@@ -83,60 +83,16 @@ returns-11 : tie.Need-returns-11
 unfolding questionOf
 returns-11 c = rw (c .before .if11 .taken) (c .exactly9 .ensures)
 
-hourly-requires : tie.Need-hourly-requires
-hourly-requires c κs = search needs
+counted-hour-requires : tie.Need-counted-hour-requires
+counted-hour-requires c κs = search needs
 
 returns-12 : tie.Need-returns-12
 unfolding questionOf
-returns-12 c = rw (c .before .if12 .taken) (c .hourly .ensures)
-
-hourly-requires-2 : tie.Need-hourly-requires-2
-hourly-requires-2 c κs = search needs
-
-returns-13 : tie.Need-returns-13
-unfolding questionOf
-returns-13 c = rw (c .before .if13 .taken) (c .hourly2 .ensures)
-
-hourly-requires-3 : tie.Need-hourly-requires-3
-hourly-requires-3 c κs = search needs
-
-returns-14 : tie.Need-returns-14
-unfolding questionOf
-returns-14 c = rw (c .before .if14 .taken) (c .hourly3 .ensures)
-
-hourly-requires-4 : tie.Need-hourly-requires-4
-hourly-requires-4 c κs = search needs
-
-returns-15 : tie.Need-returns-15
-unfolding questionOf
-returns-15 c = rw (c .before .if15 .taken) (c .hourly4 .ensures)
-
-hourly-requires-5 : tie.Need-hourly-requires-5
-hourly-requires-5 c κs = search needs
-
-returns-16 : tie.Need-returns-16
-unfolding questionOf
-returns-16 c = rw (c .before .if16 .taken) (c .hourly5 .ensures)
-
-hourly-requires-6 : tie.Need-hourly-requires-6
-hourly-requires-6 c κs = search needs
-
-returns-17 : tie.Need-returns-17
-unfolding questionOf
-returns-17 c = rw (c .before .if17 .taken) (c .hourly6 .ensures)
-
-exactly-requires-10 : tie.Need-exactly-requires-10
-exactly-requires-10 c κs = search needs
-
-returns-18 : tie.Need-returns-18
-unfolding questionOf
-returns-18 c = rw (c .before .if18 .taken) (c .exactly10 .ensures)
-
-returns-19 : tie.Need-returns-19
-unfolding questionOf
-returns-19 c =
-    each (λ q. 101 ≡ q .counted (c .before .before .before .before .before .before .before .before .before .before .before .before .before .before .before .before .before .before .args .numbers .now)) (c .before .before .before .before .before .before .before .before .before .before .before .before .before .before .before .before .before .before .args .word) questions
-    (λ h. absurd (c .before .before .before .before .before .before .before .before .before .before .before .before .before .before .before .before .before .if1 .left h), (λ h. absurd (c .before .before .before .before .before .before .before .before .before .before .before .before .before .before .before .before .if2 .left h), (λ h. absurd (c .before .before .before .before .before .before .before .before .before .before .before .before .before .before .before .if3 .left h), (λ h. absurd (c .before .before .before .before .before .before .before .before .before .before .before .before .before .before .if4 .left h), (λ h. absurd (c .before .before .before .before .before .before .before .before .before .before .before .before .before .if5 .left h), (λ h. absurd (c .before .before .before .before .before .before .before .before .before .before .before .before .if6 .left h), (λ h. absurd (c .before .before .before .before .before .before .before .before .before .before .before .if7 .left h), (λ h. absurd (c .before .before .before .before .before .before .before .before .before .before .if8 .left h), (λ h. absurd (c .before .before .before .before .before .before .before .before .before .if9 .left h), (λ h. absurd (c .before .before .before .before .before .before .before .before .if10 .left h), (λ h. absurd (c .before .before .before .before .before .before .before .if11 .left h), (λ h. absurd (c .before .before .before .before .before .before .if12 .left h), (λ h. absurd (c .before .before .before .before .before .if13 .left h), (λ h. absurd (c .before .before .before .before .if14 .left h), (λ h. absurd (c .before .before .before .if15 .left h), (λ h. absurd (c .before .before .if16 .left h), (λ h. absurd (c .before .if17 .left h), (λ h. absurd (c .if18 .left h), refl))))))))))))))))))
+returns-12 c =
+    let e = c .before in
+    let a = e .before .before .before .before .before .before .before .before .before .before .before .args in
+    each-then (λ (q : Question). c .counted-hour .result ≡ q .counted (a .numbers .now)) (a .word) rules hours
+    (λ h. absurd (e .before .before .before .before .before .before .before .before .before .before .if1 .left h), (λ h. absurd (e .before .before .before .before .before .before .before .before .before .if2 .left h), (λ h. absurd (e .before .before .before .before .before .before .before .before .if3 .left h), (λ h. absurd (e .before .before .before .before .before .before .before .if4 .left h), (λ h. absurd (e .before .before .before .before .before .before .if5 .left h), (λ h. absurd (e .before .before .before .before .before .if6 .left h), (λ h. absurd (e .before .before .before .before .if7 .left h), (λ h. absurd (e .before .before .before .if8 .left h), (λ h. absurd (e .before .before .if9 .left h), (λ h. absurd (e .before .if10 .left h), (λ h. absurd (e .if11 .left h), c .counted-hour .ensures)))))))))))
 
 pub counted-spec : {M : Type 1} → statement M
 counted-spec =
@@ -164,18 +120,5 @@ counted-spec =
     returns-10
     exactly-requires-9
     returns-11
-    hourly-requires
-    returns-12
-    hourly-requires-2
-    returns-13
-    hourly-requires-3
-    returns-14
-    hourly-requires-4
-    returns-15
-    hourly-requires-5
-    returns-16
-    hourly-requires-6
-    returns-17
-    exactly-requires-10
-    returns-18
-    returns-19)
+    counted-hour-requires
+    returns-12)
