@@ -54,7 +54,7 @@ fn answer(state: State, numbers: &[i64], out: &mut [u8]) -> bool {
         &numbers[..count],
         out,
     );
-    let written = within(said.written, out.len());
+    let written = said.written;
     io::write_all(1, &out[..written])
 }
 

@@ -10,4 +10,4 @@ reply-determined : Determined 2 reply-kinds.ps reply-kinds.r reply.Post
 reply-determined κs a x y s t p q = p .0 ∙ sym (q .0)
 
 reply-out-determined : LeftDetermined 2 reply-kinds.ps reply-kinds.r (λ κs s. now (s .1 .1 .1 .1 .1 .0)) reply.Post
-reply-out-determined κs a x y s t p q = p .1 ∙ sym (q .1)
+reply-out-determined κs a x y s t p q = p .1 .0 ∙ sym (q .1 .0)

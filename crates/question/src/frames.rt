@@ -69,6 +69,7 @@ pub(crate) fn put_frame(framed: Framed, out: &mut [u8]) -> usize
     requires { ⌜ room ≤ length (now out) ⌝ }
     ensures place { λ r. ⌜ r ≡ length (frameText framed) ⌝ }
     ensures text { λ r. ⌜ now (out .exit) ≡ put (now (out .entry)) 0 (frameText framed) ⌝ }
+    ensures short { λ r. ⌜ r ≤ room ⌝ }
 {
     let mut line = [b'\n'; 25];
     let entry = framed.entry;

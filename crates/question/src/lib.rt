@@ -104,6 +104,7 @@ fn put_few(word: u64, numbers: &[i64], out: &mut [u8]) -> usize
     requires { ⌜ room ≤ length (now out) ⌝ }
     ensures place { λ r. ⌜ r ≡ length (lineText (fewOf (questionOf word .answer) (now (numbers .entry)))) ⌝ }
     ensures text { λ r. ⌜ now (out .exit) ≡ put (now (out .entry)) 0 (lineText (fewOf (questionOf word .answer) (now (numbers .entry)))) ⌝ }
+    ensures short { λ r. ⌜ r ≤ room ⌝ }
 {
     let fields = fields_of(word, numbers);
     let n = fields.count;
@@ -115,6 +116,7 @@ fn put_ramp(numbers: &[i64], out: &mut [u8]) -> usize
     requires { ⌜ room ≤ length (now out) ⌝ }
     ensures place { λ r. ⌜ r ≡ length (lineText (rampReply (now (numbers .entry)))) ⌝ }
     ensures text { λ r. ⌜ now (out .exit) ≡ put (now (out .entry)) 0 (lineText (rampReply (now (numbers .entry)))) ⌝ }
+    ensures short { λ r. ⌜ r ≤ room ⌝ }
 {
     let mut seconds = [0i64; 900];
     let last = Kilowatts(whole::at(numbers, 0));
@@ -128,6 +130,7 @@ fn put_hour_scores(shifting: bool, numbers: &[i64], out: &mut [u8]) -> usize
     requires { ⌜ room ≤ length (now out) ⌝ }
     ensures place { λ r. ⌜ r ≡ length (lineText (scoresReply shifting (now (numbers .entry)))) ⌝ }
     ensures text { λ r. ⌜ now (out .exit) ≡ put (now (out .entry)) 0 (lineText (scoresReply shifting (now (numbers .entry)))) ⌝ }
+    ensures short { λ r. ⌜ r ≤ room ⌝ }
 {
     let mut scores = [0u8; 3600];
     let settled = hours::settle(shifting, numbers, 0, &mut scores);
@@ -142,6 +145,7 @@ fn put_answer(word: u64, numbers: &[i64], out: &mut [u8]) -> usize
     requires { ⌜ room ≤ length (now out) ⌝ }
     ensures place { λ r. ⌜ r ≡ length (textOf (questionOf word .answer) (now (numbers .entry))) ⌝ }
     ensures text { λ r. ⌜ now (out .exit) ≡ put (now (out .entry)) 0 (textOf (questionOf word .answer) (now (numbers .entry))) ⌝ }
+    ensures short { λ r. ⌜ r ≤ room ⌝ }
 {
     if word == words::RAMP {
         return put_ramp(numbers, out);
@@ -176,6 +180,7 @@ pub fn reply(
 ) -> Answered
     ensures answers { λ r. ⌜ r ≡ answered (length (now (out .entry))) (replyText word line found place (now (numbers .entry))) ⌝ }
     ensures text { λ r. ⌜ now (out .exit) ≡ printed (now (out .entry)) (replyText word line found place (now (numbers .entry))) ⌝ }
+    ensures short { λ r. ⌜ r .written ≤ length (now (out .entry)) ⌝ }
 {
     let k = counts::counted(word, numbers);
     if (found != 0) & (k != NOT_QUESTION) {
@@ -188,6 +193,7 @@ pub fn reply(
 fn answer(word: u64, line: u64, numbers: &[i64], out: &mut [u8]) -> Answered
     ensures answers { λ r. ⌜ r ≡ answered (length (now (out .entry))) (answerText word line (now (numbers .entry))) ⌝ }
     ensures text { λ r. ⌜ now (out .exit) ≡ printed (now (out .entry)) (answerText word line (now (numbers .entry))) ⌝ }
+    ensures short { λ r. ⌜ r .written ≤ length (now (out .entry)) ⌝ }
 {
     let k = counts::counted(word, numbers);
     if k != 0 {
@@ -210,6 +216,7 @@ fn answer(word: u64, line: u64, numbers: &[i64], out: &mut [u8]) -> Answered
 fn fault(fault: u8, line: u64, out: &mut [u8]) -> Answered
     ensures answers { λ r. ⌜ r ≡ answered (length (now (out .entry))) (faultText fault line) ⌝ }
     ensures text { λ r. ⌜ now (out .exit) ≡ printed (now (out .entry)) (faultText fault line) ⌝ }
+    ensures short { λ r. ⌜ r .written ≤ length (now (out .entry)) ⌝ }
 {
     if out.len() < ROOM {
         return Answered {

@@ -67,6 +67,7 @@ pub(crate) fn put_line(refusal: u8, fields: &[i64], out: &mut [u8]) -> usize
     requires { ⌜ length (now fields) ≤ 900 ⌝ }
     ensures place { λ r. ⌜ r ≡ length (lineText (reply refusal (now (fields .entry)))) ⌝ }
     ensures text { λ r. ⌜ now (out .exit) ≡ put (now (out .entry)) 0 (lineText (reply refusal (now (fields .entry)))) ⌝ }
+    ensures short { λ r. ⌜ r ≤ room ⌝ }
 {
     let a = text::put_decimal(out, 0, refusal as u64);
     let b = put_fields(out, a, fields);
@@ -79,6 +80,7 @@ pub(crate) fn put_score_line(refusal: u8, scores: &[u8], out: &mut [u8]) -> usiz
     requires { ⌜ length (now scores) ≤ 3600 ⌝ }
     ensures place { λ r. ⌜ r ≡ length (lineText (reply refusal (map pos (now (scores .entry))))) ⌝ }
     ensures text { λ r. ⌜ now (out .exit) ≡ put (now (out .entry)) 0 (lineText (reply refusal (map pos (now (scores .entry))))) ⌝ }
+    ensures short { λ r. ⌜ r ≤ room ⌝ }
 {
     let a = text::put_decimal(out, 0, refusal as u64);
     let b = put_scores(out, a, scores);
@@ -90,6 +92,7 @@ pub(crate) fn put_alone(refusal: u8, out: &mut [u8]) -> usize
     requires { ⌜ room ≤ length (now out) ⌝ }
     ensures place { λ r. ⌜ r ≡ length (lineText (reply refusal [])) ⌝ }
     ensures text { λ r. ⌜ now (out .exit) ≡ put (now (out .entry)) 0 (lineText (reply refusal [])) ⌝ }
+    ensures short { λ r. ⌜ r ≤ room ⌝ }
 {
     let none = [0i64; 1];
     put_line(refusal, &none[..0], out)
@@ -144,6 +147,7 @@ pub(crate) fn put_fault(fault: u8, line: u64, words: &[u8], out: &mut [u8]) -> u
     requires { ⌜ room ≤ length (now out) ⌝ }
     ensures place { λ r. ⌜ r ≡ length (faultText fault line) ⌝ }
     ensures text { λ r. ⌜ now (out .exit) ≡ put (now (out .entry)) 0 (faultText fault line) ⌝ }
+    ensures short { λ r. ⌜ r ≤ room ⌝ }
 {
     let span = span_of(fault);
     let start = span.start;

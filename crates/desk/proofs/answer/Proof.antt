@@ -1,5 +1,7 @@
 -- `desk::answer` is safe and ends. Assumes nothing.
+use Prim.Native.Nat.{_≤_}
 use mathlib.Core.Path.{sym}
+use lib.ListN.{length}
 use lib.Seq.{length-take-le}
 use borrow.Author.Needs.{needs}
 use Rattle.desk.proofs.answer.Statement.{statement}
@@ -14,17 +16,14 @@ slice-aggregate-reply c = sym (length-take-le (c .before .within .result) _ (c .
 reply-requires : tie.Need-reply-requires
 reply-requires c κs = search needs
 
-within-requires-2 : tie.Need-within-requires-2
-within-requires-2 c κs = search needs
-
 slice-reshare-prefix-write-all : tie.Need-slice-reshare-prefix-write-all
 slice-reshare-prefix-write-all c = search needs
 
 slice-aggregate-write-all : tie.Need-slice-aggregate-write-all
 slice-aggregate-write-all c =
-    let w = c .before in
-    let r = w .before .before .before .reply in
-    sym (length-take-le (w .within2 .result) (r .last .1 .1 .1 .1 .1 .0) (w .within2 .ensures))
+    let r = c .before .before .before .reply in
+    let h : r .result .written ≤ length (r .last .1 .1 .1 .1 .1 .0) = search needs in
+    sym (length-take-le (r .result .written) (r .last .1 .1 .1 .1 .1 .0) h)
 
 write-all-requires : tie.Need-write-all-requires
 write-all-requires c κs = search needs
@@ -42,7 +41,6 @@ answer-spec =
     within-requires
     slice-aggregate-reply
     reply-requires
-    within-requires-2
     slice-reshare-prefix-write-all
     slice-aggregate-write-all
     write-all-requires

@@ -1,6 +1,7 @@
 -- `question::answer` meets its contract: the count of the numbers decides, then the room. Assumes nothing.
 use borrow.Author.Needs.{needs}
 use Prim.Native.Nat.{ℕ}
+use native.Mathlib.Omega.{arith}
 use mathlib.Core.Path.{_≡_, refl, sym, ap, _∙_}
 use mathlib.Core.List.{List}
 use lib.IntN.{ℤ}
@@ -36,11 +37,11 @@ returns c =
     let t = f .before .before in
     let a = t .before .before .before .args in
     let e = faulty (a .word) (a .line) (a .numbers .now) _ (t .before .counted .ensures) (t .if1 .taken) in
-    (f .fault .ensures .0 ∙ ap (answered (length (a .out .now))) e, f .fault .ensures .1 ∙ ap (printed (a .out .now)) e)
+    (f .fault .ensures .0 ∙ ap (answered (length (a .out .now))) e, (f .fault .ensures .1 .0 ∙ ap (printed (a .out .now)) e, f .fault .ensures .1 .1))
 
 returns-2 : tie.Need-returns-2
 unfolding answered printed
-returns-2 c = rw (lt-leb room (length (c .before .before .before .before .args .out .now)) (c .if2 .taken)) (refl, refl)
+returns-2 c = rw (lt-leb room (length (c .before .before .before .before .args .out .now)) (c .if2 .taken)) (refl, (refl, omega arith))
 
 put-answer-requires : tie.Need-put-answer-requires
 put-answer-requires c κs = search needs
@@ -56,7 +57,7 @@ returns-3 c =
     let t = l .before in
     let a = t .before .before .before .args in
     let e = right (a .word) (a .line) (a .numbers .now) (sym (t .before .counted .ensures) ∙ t .if1 .left) in
-    rw (le-leb room (length (a .out .now)) (l .if2 .left), e) (rw (p .put-answer .ensures .0), p .put-answer .ensures .1)
+    rw (le-leb room (length (a .out .now)) (l .if2 .left), e) (rw (p .put-answer .ensures .0), (p .put-answer .ensures .1 .0, omega (arith, p .put-answer .ensures .1 .1, l .if2 .left)))
 
 pub answer-spec : {M : Type 1} → statement M
 answer-spec =

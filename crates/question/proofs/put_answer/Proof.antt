@@ -93,7 +93,7 @@ returns-7 c =
     let n = a .numbers .now in
     let e = each (λ (q : Question). lineText (fewOf (q .answer) n) ≡ textOf (q .answer) n) (a .word) questions
     (λ _. refl, (λ _. refl, (λ _. refl, (λ h. absurd (l .before .before .before .before .before .if1 .left h), (λ _. refl, (λ _. refl, (λ _. refl, (λ _. refl, (λ _. refl, (λ _. refl, (λ _. refl, (λ _. refl, (λ _. refl, (λ h. absurd (l .before .before .before .before .if2 .left h), (λ h. absurd (l .before .before .before .if3 .left h), (λ h. absurd (l .before .before .if4 .left h), (λ h. absurd (l .before .if5 .left h), (λ h. absurd (l .if6 .left h), refl)))))))))))))))))) in
-    (p .put-few .ensures .0 ∙ ap length e, p .put-few .ensures .1 ∙ ap (put (a .out .now) 0) e)
+    (p .put-few .ensures .0 ∙ ap length e, (p .put-few .ensures .1 .0 ∙ ap (put (a .out .now) 0) e, p .put-few .ensures .1 .1))
 
 pub put-answer-spec : {M : Type 1} → statement M
 put-answer-spec =

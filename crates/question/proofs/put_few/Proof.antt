@@ -48,7 +48,7 @@ returns c =
     let f = p .before .before .before .before in
     let e = line f in
     let out = f .before .before .args .out .now in
-    (p .put-line .ensures .0 ∙ ap (λ (r : Reply). length (lineText r)) e, p .put-line .ensures .1 ∙ ap (λ (r : Reply). put out 0 (lineText r)) e)
+    (p .put-line .ensures .0 ∙ ap (λ (r : Reply). length (lineText r)) e, (p .put-line .ensures .1 .0 ∙ ap (λ (r : Reply). put out 0 (lineText r)) e, p .put-line .ensures .1 .1))
 
 pub put-few-spec : {M : Type 1} → statement M
 put-few-spec =

@@ -57,7 +57,7 @@ returns c =
     let k = r .settle .result .refusal in
     let e = ap (λ (l : List ℕ). reply k (map pos l)) (shown-run k _ 3600 _ (h .shown .ensures) (long r)) ∙ scores-left (hourAsked (a .shifting) (a .numbers .now) 0) _ _ _ refl (ap (λ (x : Settlement). x .refusal) (r .settle .ensures .0)) (r .settle .ensures .1) in
     let out = a .out .now in
-    (p .put-score-line .ensures .0 ∙ ap (λ (x : Reply). length (lineText x)) e, p .put-score-line .ensures .1 ∙ ap (λ (x : Reply). put out 0 (lineText x)) e)
+    (p .put-score-line .ensures .0 ∙ ap (λ (x : Reply). length (lineText x)) e, (p .put-score-line .ensures .1 .0 ∙ ap (λ (x : Reply). put out 0 (lineText x)) e, p .put-score-line .ensures .1 .1))
 
 pub put-hour-scores-spec : {M : Type 1} → statement M
 put-hour-scores-spec =

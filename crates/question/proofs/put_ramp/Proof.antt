@@ -62,7 +62,7 @@ returns c =
     let f = rw (back w64 (b .before .at .ok) (b .before .at .ensures), back w64 (b .at2 .ok) (b .at2 .ensures)) at (r .ramp .ensures) in
     let e = ap (reply (r .ramp .result)) (shown-run (r .ramp .result) _ 900 _ (h .shown .ensures) (long r)) ∙ ramp-left (s .args .numbers .now) _ _ _ refl (f .0) (f .1) in
     let out = s .args .out .now in
-    (p .put-line .ensures .0 ∙ ap (λ (x : Reply). length (lineText x)) e, p .put-line .ensures .1 ∙ ap (λ (x : Reply). put out 0 (lineText x)) e)
+    (p .put-line .ensures .0 ∙ ap (λ (x : Reply). length (lineText x)) e, (p .put-line .ensures .1 .0 ∙ ap (λ (x : Reply). put out 0 (lineText x)) e, p .put-line .ensures .1 .1))
 
 pub put-ramp-spec : {M : Type 1} → statement M
 put-ramp-spec =

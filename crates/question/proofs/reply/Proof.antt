@@ -38,7 +38,7 @@ returns c =
     let t = f .before .before in
     let a = t .before .before .before .args in
     let e = told (a .word) (a .line) (a .found) (a .place) (a .numbers .now) _ (t .before .counted .ensures) (t .if1 .taken) in
-    (f .fault .ensures .0 ∙ ap (answered (length (a .out .now))) e, f .fault .ensures .1 ∙ ap (printed (a .out .now)) e)
+    (f .fault .ensures .0 ∙ ap (answered (length (a .out .now))) e, (f .fault .ensures .1 .0 ∙ ap (printed (a .out .now)) e, f .fault .ensures .1 .1))
 
 answer-requires : tie.Need-answer-requires
 answer-requires c κs = search needs
@@ -52,7 +52,7 @@ returns-2 c =
     let t = f .before .before in
     let a = t .before .before .before .args in
     let e = right (a .word) (a .line) (a .found) (a .place) (a .numbers .now) _ (t .before .counted .ensures) (t .if1 .left) in
-    (f .answer .ensures .0 ∙ ap (answered (length (a .out .now))) e, f .answer .ensures .1 ∙ ap (printed (a .out .now)) e)
+    (f .answer .ensures .0 ∙ ap (answered (length (a .out .now))) e, (f .answer .ensures .1 .0 ∙ ap (printed (a .out .now)) e, f .answer .ensures .1 .1))
 
 pub reply-spec : {M : Type 1} → statement M
 reply-spec =

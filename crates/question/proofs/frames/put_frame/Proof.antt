@@ -1,6 +1,6 @@
 -- `question::frames::put_frame` meets its contract: the writer's digits before the line end, or the refusal alone. Assumes nothing.
 use borrow.Author.Needs.{needs}
-use Prim.Native.Nat.{ℕ, _+_}
+use Prim.Native.Nat.{ℕ, _+_, _≤_}
 use native.Mathlib.Omega.{arith}
 use mathlib.Core.Path.{_≡_, sym, ap, _∙_}
 use mathlib.Core.List.{List, [], _∷_, _++_}
@@ -10,7 +10,7 @@ use Rattle.whole.specs.Choice.{orElse}
 use Rattle.whole.proofs.Choice.{both-passed}
 use Rattle.frame.specs.Frame.{lineOf, writeRefusal}
 use Rattle.frame.proofs.Frames.{write-right}
-use Rattle.question.specs.Lines.{frameRefusal, frameText}
+use Rattle.question.specs.Lines.{room, frameRefusal, frameText}
 use Rattle.question.proofs.LineLaws.{begin}
 use Rattle.question.proofs.frames.put_frame.Statement.{statement}
 use Rattle.question.proofs.frames.put_frame.Tie as tie
@@ -55,7 +55,8 @@ returns c =
     let o = both-passed (a .framed .refusal) (writeRefusal (a .framed .entry) 24) k .1 in
     let line = w .write-frame .ensures .1 ∙ sym (write-right (a .framed .entry) _ o) in
     let one = begin (a .out .now) _ _ _ (omega (arith, long w, length-append (w .write-frame .last .1 .0) (10 ∷ []))) (y .put .ensures .0) (y .put .ensures .1) in
-    rw (k, ← line) one
+    let short : y .put .result ≤ room = omega (arith, one .0, long w, length-append (w .write-frame .last .1 .0) (10 ∷ [])) in
+    rw (k, ← line) (one .0, (one .1, short))
 
 put-alone-requires : tie.Need-put-alone-requires
 put-alone-requires c κs = search needs

@@ -62,7 +62,7 @@ returns c =
     let two = more out _ _ _ _ _ line (omega arith) one (y .put-decimal .ensures .0) (y .put-decimal .ensures .1) in
     let three = more out _ _ _ _ _ (faultWords (a .fault)) (simp length-append (omega arith)) two (last .0) (last .1) in
     let g = append-assoc (bytes "line ") line (faultWords (a .fault)) in
-    (three .0 ∙ ap length g, three .1 ∙ ap (put out 0) g)
+    (three .0 ∙ ap length g, (three .1 ∙ ap (put out 0) g, omega (arith, three .0, length-append (bytes "line " ++ line) (faultWords (a .fault)), two .0, length-append (bytes "line ") line, long, few)))
 
 pub put-fault-spec : {M : Type 1} → statement M
 put-fault-spec =

@@ -3,7 +3,7 @@ use borrow.Author.Needs.{needs}
 use Prim.Native.Nat.{_+_, _≤_}
 use native.Mathlib.Omega.{arith}
 use mathlib.Core.Path.{_≡_, ap, _∙_}
-use mathlib.Core.List.{append-assoc}
+use mathlib.Core.List.{_++_, append-assoc}
 use lib.ListN.{length, length-append}
 use Rattle.text.specs.Text.{decimalOf, put}
 use Rattle.text.proofs.Places.{length-put}
@@ -53,7 +53,7 @@ returns c =
     let two = further out _ _ _ _ first fields (omega (arith, few x)) (begun x) (e .0) (e .1 .0) in
     let three = more out _ _ _ _ _ lineEnd (omega (arith, few x, two .0, e .1 .1, begun x .0)) two (z .put .ensures .0) (z .put .ensures .1) in
     let g = append-assoc first fields lineEnd in
-    (three .0 ∙ ap length g, three .1 ∙ ap (put out 0) g)
+    (three .0 ∙ ap length g, (three .1 ∙ ap (put out 0) g, omega (arith, three .0, length-append (first ++ fields) lineEnd, two .0, few x, e .1 .1, begun x .0)))
 
 pub put-line-spec : {M : Type 1} → statement M
 put-line-spec =

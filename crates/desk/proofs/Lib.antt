@@ -1,0 +1,4 @@
+-- What belongs to no one function.
+mod Transcript
+mod Agreed
+mod Piped
