@@ -15,8 +15,7 @@ fn show(label: &[u8], frequency: i64) {
 }
 
 // Document 002, table 1.
-pub fn step_test() {
-    text::heading(b"document 002, table 1: the step test");
+fn first_steps() {
     show(b"F01", 60_010);
     show(b"F02", 59_990);
     show(b"F03", 60_020);
@@ -26,6 +25,9 @@ pub fn step_test() {
     show(b"F07", 60_140);
     show(b"F08", 59_860);
     show(b"F09", 60_200);
+}
+
+fn last_steps() {
     show(b"F10", 59_800);
     show(b"F11", 60_250);
     show(b"F12", 59_750);
@@ -35,6 +37,12 @@ pub fn step_test() {
     show(b"F16", 59_600);
     show(b"F17", 60_500);
     show(b"F18", 59_500);
+}
+
+pub fn step_test() {
+    text::heading(b"document 002, table 1: the step test");
+    first_steps();
+    last_steps();
 }
 
 // Document 01's worked figures, the two ties among them.

@@ -103,20 +103,32 @@ fn refused_energy(powers: &mut [i64]) {
 }
 
 // Document 001, table 5: charging at 500 dollars.
+fn table_5(powers: &mut [i64]) {
+    means(powers, -3_000, -2_900, 100, -3_200);
+    energy(b"table 5", powers, -3_000, 200_000, 50_000);
+    energy(b"no target", powers, 0, 200_000, 50_000);
+    energy(b"discharging", powers, 3_000, 200_000, 50_000);
+}
+
+fn halves(powers: &mut [i64]) {
+    means(powers, 0, 0, 0, 2);
+    energy(b"a half", powers, 1, 100_000, 0);
+    energy(b"a half charging", powers, -1, 0, 100_000);
+    energy(b"less than a half", powers, 1, 99_999, 0);
+}
+
+fn limits_of_energy(powers: &mut [i64]) {
+    means(powers, 200_000, 200_000, 200_000, 200_000);
+    energy(b"most", powers, 100_000, 10_000_000, 10_000_000);
+    energy(b"least", powers, -100_000, 10_000_000, 10_000_000);
+}
+
 pub fn of_energy() {
     text::heading(b"document 001, table 5: the energy service fee");
     let mut powers = [0i64; 3600];
-    means(&mut powers, -3_000, -2_900, 100, -3_200);
-    energy(b"table 5", &powers, -3_000, 200_000, 50_000);
-    energy(b"no target", &powers, 0, 200_000, 50_000);
-    energy(b"discharging", &powers, 3_000, 200_000, 50_000);
-    means(&mut powers, 0, 0, 0, 2);
-    energy(b"a half", &powers, 1, 100_000, 0);
-    energy(b"a half charging", &powers, -1, 0, 100_000);
-    energy(b"less than a half", &powers, 1, 99_999, 0);
-    means(&mut powers, 200_000, 200_000, 200_000, 200_000);
-    energy(b"most", &powers, 100_000, 10_000_000, 10_000_000);
-    energy(b"least", &powers, -100_000, 10_000_000, 10_000_000);
+    table_5(&mut powers);
+    halves(&mut powers);
+    limits_of_energy(&mut powers);
     refused_energy(&mut powers);
 }
 

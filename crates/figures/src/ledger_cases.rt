@@ -38,14 +38,18 @@ fn read_out(m: Month) {
     text::end();
 }
 
-// Document 01's sample, a withdrawn hour that posts again, and a closed month.
-pub fn a_month() {
-    text::heading(b"a month by hand");
+// Document 01's sample: a post, a second one at the same hour, a loss fee.
+fn posted() -> Month {
     let m = book(b"open 31", Month::open(31));
     let m = book(b"post", m.post(3, 10, Dollars(7_800)));
     let m = book(b"post again", m.post(3, 10, Dollars(6_280)));
     let m = book(b"loss fee", m.loss_fee(Dollars(8_658)));
     read_out(m);
+    m
+}
+
+// A withdrawn hour posts again.
+fn changed(m: Month) -> Month {
     let m = book(b"replace", m.replace(3, 10, Dollars(6_280)));
     let m = book(b"withdraw", m.withdraw(3, 10));
     let m = book(b"withdraw empty", m.withdraw(3, 10));
@@ -53,6 +57,11 @@ pub fn a_month() {
     let m = book(b"post withdrawn", m.post(3, 10, Dollars(-5)));
     let m = book(b"loss fee again", m.loss_fee(Dollars(100)));
     read_out(m);
+    m
+}
+
+// A closed month.
+fn closed(m: Month) {
     let m = book(b"close", m.close());
     let m = book(b"close closed", m.close());
     let m = book(b"post closed", m.post(4, 0, Dollars(1)));
@@ -62,29 +71,52 @@ pub fn a_month() {
     read_out(m);
 }
 
-// Days, hours, amounts and fees at and past their limits.
-pub fn limits() {
-    text::heading(b"the ledger at and past the limits");
+pub fn a_month() {
+    text::heading(b"a month by hand");
+    let m = posted();
+    let m = changed(m);
+    closed(m);
+}
+
+fn lengths() {
     book(b"open 27", Month::open(27));
     book(b"open 28", Month::open(28));
     book(b"open 32", Month::open(32));
     book(b"open 255", Month::open(255));
-    let m = book(b"open 30", Month::open(30));
+}
+
+fn days_and_hours(m: Month) {
     book(b"day 0", m.post(0, 0, Dollars(1)));
     book(b"day 30", m.post(30, 23, Dollars(1)));
     book(b"day 31", m.post(31, 0, Dollars(1)));
     book(b"hour 24", m.post(1, 24, Dollars(1)));
     book(b"day 255 hour 255", m.post(255, 255, Dollars(1)));
+}
+
+fn amounts(m: Month) {
     book(b"amount least", m.post(1, 0, Dollars(-1_000_000_000)));
     book(b"amount below", m.post(1, 0, Dollars(-1_000_000_001)));
     book(b"amount most", m.post(1, 0, Dollars(1_000_000_000)));
     book(b"amount above", m.post(1, 0, Dollars(1_000_000_001)));
     book(b"amount i64", m.post(1, 0, Dollars(i64::MIN)));
+}
+
+fn loss_fees(m: Month) {
     book(b"fee zero", m.loss_fee(Dollars(0)));
     book(b"fee below", m.loss_fee(Dollars(-1)));
     book(b"fee most", m.loss_fee(Dollars(100_000_000_000)));
     book(b"fee above", m.loss_fee(Dollars(100_000_000_001)));
     book(b"fee i64", m.loss_fee(Dollars(i64::MAX)));
+}
+
+// Days, hours, amounts and fees at and past their limits.
+pub fn limits() {
+    text::heading(b"the ledger at and past the limits");
+    lengths();
+    let m = book(b"open 30", Month::open(30));
+    days_and_hours(m);
+    amounts(m);
+    loss_fees(m);
 }
 
 // A month with every hour posted.
