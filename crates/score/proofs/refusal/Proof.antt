@@ -49,8 +49,24 @@ or-else-requires-2 c κs = search needs
 returns : tie.Need-returns
 unfolding secondRefusal
 returns c =
-    let s = c .before .before .before .before .before .before .before .before .before in
-    cc (toZ-ofZ (power-fits s), toZ-ofZ (transfer-fits s), toZ-ofZ (capacity-fits s), toZ-ofZ (frequency-fits s))
+    let u = c .before .before in
+    let w = u .before .before in
+    let v = w .before .before in
+    let s = v .before .before .before in
+    rw (
+      c .before .or-else .ensures,
+      w .before .unless .ensures,
+      v .within3 .ensures,
+      u .before .unless2 .ensures,
+      w .within4 .ensures,
+      u .unless3 .ensures,
+      v .before .before .within .ensures,
+      v .before .within2 .ensures,
+      toZ-ofZ (power-fits s),
+      toZ-ofZ (transfer-fits s),
+      toZ-ofZ (capacity-fits s),
+      toZ-ofZ (frequency-fits s),
+    ) at (c .or-else2 .ensures)
 
 pub refusal-spec : {M : Type 1} → statement M
 refusal-spec =

@@ -36,7 +36,19 @@ unless-requires-4 c κs = search needs
 
 returns : tie.Need-returns
 unfolding runRefusal
-returns c = cc (toZ-ofZ (capacity-fits (c .before .before .before .before .before .before .before .before)))
+returns c =
+    let e = c .before .before .before .before in
+    let a = e .before .before .before in
+    rw (
+      c .before .unless3 .ensures,
+      c .before .before .within .ensures,
+      toZ-ofZ (capacity-fits (a .before)),
+      c .before .before .before .unless2 .ensures,
+      e .unless .ensures,
+      e .before .all-within3 .ensures,
+      e .before .before .all-within2 .ensures,
+      a .all-within .ensures,
+    ) at (c .unless4 .ensures)
 
 pub run-refusal-spec : {M : Type 1} → statement M
 run-refusal-spec =
