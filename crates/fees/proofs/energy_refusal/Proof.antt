@@ -32,8 +32,20 @@ unless-requires-4 c κs = search needs
 returns : tie.Need-returns
 unfolding energyRefusal
 returns c =
-    let f = c .before .before .before .before .before .before .before .before .fits in
-    cc (toZ-ofZ (f .discharge), toZ-ofZ (f .charge))
+    let prices = c .before .before in
+    let targets = prices .before .before .before in
+    let powers = targets .before .before in
+    rw (
+      c .before .unless3 .ensures,
+      prices .before .is-price .ensures,
+      prices .is-price2 .ensures,
+      prices .before .before .unless2 .ensures,
+      targets .all-within2 .ensures,
+      targets .before .unless .ensures,
+      powers .all-within .ensures,
+      toZ-ofZ (powers .before .fits .discharge),
+      toZ-ofZ (powers .before .fits .charge),
+    ) at (c .unless4 .ensures)
 
 pub energy-refusal-spec : {M : Type 1} → statement M
 energy-refusal-spec =

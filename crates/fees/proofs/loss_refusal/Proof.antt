@@ -26,8 +26,19 @@ unless-requires-2 c κs = search needs
 returns : tie.Need-returns
 unfolding lossRefusal
 returns c =
-    let f = c .before .before .before .before .before .before .fits in
-    cc (toZ-ofZ (f .charged), toZ-ofZ (f .discharged), toZ-ofZ (f .voltage), toZ-ofZ (f .cost))
+    let v = c .before .before .before in
+    let f = v .before .before .before .fits in
+    rw (
+      v .within2 .ensures,
+      c .before .before .within3 .ensures,
+      c .before .within4 .ensures,
+      v .before .unless .ensures,
+      v .before .before .within .ensures,
+      toZ-ofZ (f .charged),
+      toZ-ofZ (f .discharged),
+      toZ-ofZ (f .voltage),
+      toZ-ofZ (f .cost),
+    ) at (c .unless2 .ensures)
 
 pub loss-refusal-spec : {M : Type 1} → statement M
 loss-refusal-spec =

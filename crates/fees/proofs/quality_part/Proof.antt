@@ -40,7 +40,16 @@ found : (c : tie.After-unless2) →
 unfolding qualityRefusal
 found c =
     let s = c .before .before .before .before .before in
-    cc (toZ-ofZ (first-fits s), toZ-ofZ (second-fits s), toZ-ofZ (s .before .before .fits .factor))
+    let b = c .before .before .before in
+    rw (
+      c .before .before .within2 .ensures,
+      c .before .within3 .ensures,
+      b .unless .ensures,
+      b .before .within .ensures,
+      toZ-ofZ (first-fits s),
+      toZ-ofZ (second-fits s),
+      toZ-ofZ (s .before .before .fits .factor),
+    ) at (c .unless2 .ensures)
 
 fits : (c : tie.Then1) → let a = c .before .before .before .before .before .before .before .before .args in QualityFits (a .capacity) (a .performance) (a .factor)
 fits c = quality-fits _ _ _ (sym (found (c .before)) ∙ c .if1 .taken)
