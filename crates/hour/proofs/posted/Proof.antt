@@ -29,8 +29,14 @@ amount-fits c = search needs
 returns : tie.Need-returns
 unfolding postedOf
 returns c =
-    let f = amount-fits (c .before .before .before .before .before) in
-    cc (toZ-ofZ f)
+    let range = c .before .before .before .before in
+    rw (
+      c .before .before .or-else .ensures,
+      c .before .before .before .unless .ensures,
+      range .within .ensures,
+      range .before .before .post .ensures,
+      toZ-ofZ (amount-fits (range .before)),
+    ) at (c .join .ensures)
 
 pub posted-spec : {M : Type 1} → statement M
 posted-spec =

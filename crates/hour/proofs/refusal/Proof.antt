@@ -36,7 +36,22 @@ unless-requires-4 c κs = search needs
 
 returns : tie.Need-returns
 unfolding termsRefusal
-returns c = cc
+returns c =
+    let size = c .before .before .before in
+    let prices = size .before .before in
+    let bands = prices .before .before in
+    let targets = bands .before .before in
+    rw (
+      c .before .lengths-fit .ensures,
+      c .before .before .unless3 .ensures,
+      size .capacity-fits .ensures,
+      size .before .unless2 .ensures,
+      prices .prices-fit .ensures,
+      prices .before .or-else .ensures,
+      bands .check .ensures,
+      bands .before .unless .ensures,
+      targets .all-within .ensures,
+    ) at (c .unless4 .ensures)
 
 pub refusal-spec : {M : Type 1} → statement M
 refusal-spec =
