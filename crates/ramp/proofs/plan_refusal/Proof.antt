@@ -1,14 +1,8 @@
 -- `ramp::plan_refusal` meets its contract: its tests are the definition's, in the same order. Assumes nothing.
-use borrow.Author.Needs.{needs}
 use Rattle.ramp.specs.Ramp.{planRefusal}
 use borrow.Author.Needs.{needs}
 use Rattle.ramp.proofs.plan_refusal.Statement.{statement}
 use Rattle.ramp.proofs.plan_refusal.Tie as tie
-use Rattle.ramp.proofs.plan_refusal.Reads as reads
-use Rattle.ramp.proofs.plan_refusal.Lts as lts
-use Rattle.whole.proofs.all_within.Reads as all-within-reads
-use Rattle.whole.proofs.or_else.Reads as or-else-reads
-use Rattle.whole.proofs.unless.Reads as unless-reads
 
 unless-requires : tie.Need-unless-requires
 unless-requires c κs = search needs
@@ -24,7 +18,9 @@ or-else-requires c κs = search needs
 
 returns : tie.Need-returns
 unfolding planRefusal
-returns c = cc
+returns c =
+    let inside = c .before .before in
+    rw (c .before .unless2 .ensures, inside .all-within .ensures, inside .before .unless .ensures) at (c .or-else .ensures)
 
 pub plan-refusal-spec : {M : Type 1} → statement M
 plan-refusal-spec =
