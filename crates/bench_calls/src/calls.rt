@@ -1,19 +1,19 @@
 // The ways to run the calls: on runs in place, and on a month by value.
 use crate::draw;
 use crate::draw::Call;
-use month::Head;
+use board::Head;
 use month::Month;
 use units::Dollars;
 
 fn call_in(head: Head, filled: &mut [bool], amounts: &mut [i64], call: Call) -> u8 {
     let amount = Dollars(call.amount);
     if call.kind < 3 {
-        return month::post_in(head, filled, amounts, call.day, call.hour, amount);
+        return board::post_in(head, filled, amounts, call.day, call.hour, amount);
     }
     if call.kind < 5 {
-        return month::replace_in(head, filled, amounts, call.day, call.hour, amount);
+        return board::replace_in(head, filled, amounts, call.day, call.hour, amount);
     }
-    month::withdraw_in(head, filled, amounts, call.day, call.hour)
+    board::withdraw_in(head, filled, amounts, call.day, call.hour)
 }
 
 fn chosen(ordered: bool, x: u64, i: u64) -> Call {

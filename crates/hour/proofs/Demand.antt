@@ -23,7 +23,7 @@ use Rattle.fees.proofs.Laws.{amount-within}
 use Rattle.history.specs.Rules.{Call}
 use Rattle.history.specs.History.{Entry}
 use Rattle.history.specs.Demand.{Run, opened, called, Demand3}
-use Rattle.month.specs.Month.{isDays}
+use Rattle.board.specs.Board.{isDays}
 use Rattle.month.specs.Month.{answerOf as ledgerOf}
 use Rattle.month.specs.declared.Month.{Month}
 use Rattle.month.specs.declared.Booked.{Booked}

@@ -12,9 +12,9 @@ use Rattle.whole.proofs.Choice.{kept-new, kept-old}
 use Rattle.units.specs.Refusals.{notOpen}
 use Rattle.history.specs.Rules.{Call, post, replace, withdraw, lossFee, close}
 use Rattle.history.specs.Board.{fresh, rulingOn, handed}
-use Rattle.month.specs.Month.{dollars, monthRules, boardIn, headedOf}
-use Rattle.month.proofs.Core.{Heads, heads-fee, heads-close}
-use Rattle.month.specs.declared.Head.{Head}
+use Rattle.board.specs.Board.{dollars, monthRules, boardIn, headedOf}
+use Rattle.board.proofs.Core.{Heads, heads-fee, heads-close}
+use Rattle.board.specs.declared.Head.{Head}
 use Rattle.frame.specs.Kinds.{openKind, postKind, replaceKind, withdrawKind, lossFeeKind}
 use Rattle.frame.specs.Frame.{readingOf}
 use Rattle.frame.specs.declared.Entry.{Entry}

@@ -15,7 +15,7 @@ use Rattle.history.specs.Board.{rulingOn}
 use Rattle.history.specs.History.{Entry, Ruled, totalIs}
 use Rattle.history.proofs.Steps.{Told, entry, ruled, start-told, next-told}
 use Rattle.history.proofs.Readouts.{total-is}
-use Rattle.month.specs.Month.{isDays, monthRules}
+use Rattle.board.specs.Board.{isDays, monthRules}
 use Rattle.month.proofs.Sound.{month-sound}
 use Rattle.frame.specs.Kinds.{openKind}
 use Rattle.frame.specs.Frame.{readingOf}

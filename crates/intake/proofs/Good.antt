@@ -10,7 +10,8 @@ use Rattle.whole.proofs.Choice.{by-test, passed}
 use Rattle.history.specs.Rules.{Call}
 use Rattle.history.specs.Board.{fresh, wellFormed, refusalOf, nextOf, totalOn}
 use Rattle.history.proofs.Board.{Good, good-well}
-use Rattle.month.specs.Month.{isDays, monthRules, boardOf, monthOf, answerOf}
+use Rattle.board.specs.Board.{isDays, monthRules}
+use Rattle.month.specs.Month.{boardOf, monthOf, answerOf}
 use Rattle.month.proofs.Sound.{month-sound}
 use Rattle.month.proofs.Sums.{all-summed}
 use Rattle.intake.specs.Book.{Book, firstBook, callRefusal, callBook, mostLines, answersTo, bookAfterAll, totalOf}

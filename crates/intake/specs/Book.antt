@@ -8,7 +8,7 @@ use Rattle.whole.specs.Choice.{pick, unless, kept}
 use Rattle.units.specs.Refusals.{notOpen, notInMonth}
 use Rattle.history.specs.Rules.{Call, post, replace, withdraw, lossFee, close}
 use Rattle.history.specs.Board.{Board, fresh, rulingOn, handed, totalOn}
-use Rattle.month.specs.Month.{isDays, monthRules}
+use Rattle.board.specs.Board.{isDays, monthRules}
 use Rattle.frame.specs.Kinds.{openKind, postKind, replaceKind, withdrawKind, lossFeeKind}
 use Rattle.frame.specs.Frame.{readingOf}
 use Rattle.frame.specs.declared.Entry.{Entry}

@@ -10,7 +10,7 @@ use Rattle.whole.specs.Choice.{pick}
 use Rattle.whole.specs.Whole.{summed, inRange}
 use Rattle.units.specs.Refusals.{wrongLength}
 use Rattle.history.specs.Rules.{Call, lossFee, close}
-use Rattle.month.specs.Month.{dollars, boardIn, headedOf}
+use Rattle.board.specs.Board.{dollars, boardIn, headedOf}
 use Rattle.frame.specs.Kinds.{lossFeeKind}
 use Rattle.frame.specs.declared.Reading.{Reading}
 use Rattle.frame.specs.declared.Reading.the-variants.{Frame, Refused}

@@ -9,16 +9,15 @@ ghost use lib.ListN.{length, replicate};
 ghost use Rattle.text.specs.Text.{put};
 ghost use Rattle.whole.specs.Choice.{unless};
 ghost use Rattle.units.specs.Refusals.{notOpen, notInMonth};
-ghost use Rattle.month.specs.Month.{dollars, isDays};
+ghost use Rattle.board.specs.Board.{dollars, isDays};
 ghost use Rattle.frame.specs.Frame.{readingOf};
 ghost use Rattle.intake.specs.Book.{openRefusal, openBook, callRefusal, callBook, callOf, frameRefusal, frameBook, refusalIn, bookIn, answerTo, bookAfter};
 ghost use Rattle.intake.specs.Desk.{heldIn, keptIn, bookOf, headCall, headTaken, refusalNumber, settledIn, startState, chunkFits, chunkText, chunkBook, chunkState, fedOf, fedMarks, fedAmounts, fedOut, lastBook, lastAnswer, lastText, endFits, finishedOf, endMarks, endAmounts, endOut};
+use board::Head;
+use board::Headed;
 use frame::Entry;
 use frame::Reading;
 use frame::kinds;
-use month::Head;
-use month::Headed;
-use month::Month;
 use units::Dollars;
 use units::refusals;
 
@@ -147,15 +146,15 @@ fn call_month(desk: Desk, entry: Entry, filled: &mut [bool], amounts: &mut [i64]
     let kind = entry.kind;
     let amount = entry.amount;
     if kind == kinds::POST {
-        let k = month::post_in(head, filled, amounts, entry.day, entry.hour, amount);
+        let k = board::post_in(head, filled, amounts, entry.day, entry.hour, amount);
         return Taken { refusal: k, desk };
     }
     if kind == kinds::REPLACE {
-        let k = month::replace_in(head, filled, amounts, entry.day, entry.hour, amount);
+        let k = board::replace_in(head, filled, amounts, entry.day, entry.hour, amount);
         return Taken { refusal: k, desk };
     }
     if kind == kinds::WITHDRAW {
-        let k = month::withdraw_in(head, filled, amounts, entry.day, entry.hour);
+        let k = board::withdraw_in(head, filled, amounts, entry.day, entry.hour);
         return Taken { refusal: k, desk };
     }
     call_head(desk, kind, amount)
@@ -167,9 +166,9 @@ fn call_head(desk: Desk, kind: u8, amount: Dollars) -> Taken
 {
     let head = desk.head;
     if kind == kinds::LOSS_FEE {
-        return with_head(desk, month::loss_fee_in(head, amount));
+        return with_head(desk, board::loss_fee_in(head, amount));
     }
-    with_head(desk, month::close_in(head))
+    with_head(desk, board::close_in(head))
 }
 
 fn with_head(desk: Desk, headed: Headed) -> Taken
@@ -368,7 +367,7 @@ fn settle(desk: Desk, amounts: &[i64]) -> Dollars
     let head = desk.head;
     let fee = head.fee;
     let f = fee.0;
-    if desk.opened & whole::within(f, 0, Month::FEE) {
+    if desk.opened & whole::within(f, 0, board::FEE) {
         let s = whole::sum(amounts);
         return Dollars(s.sum - f);
     }

@@ -1,7 +1,7 @@
 -- DEMAND 3 of the month ledger, over the calls' contracts as the source states them (`Post` of each function's `Reads`): whatever meets those
 -- contracts loses no hour, doubles none and invents none. From the theory of any ledger (crates/history): the month is an instance. Assumes nothing.
 use Prim.Native.Nat.{ℕ}
-use mathlib.Core.Path.{_≡_, refl, ap, _∙_}
+use mathlib.Core.Path.{_≡_, ap, _∙_}
 use mathlib.Core.Bool.{true, false}
 use mathlib.Core.List.{List}
 use native.Mathlib.Omega.{arith}
@@ -16,10 +16,11 @@ use Rattle.history.specs.History.{Entry}
 use Rattle.history.specs.Demand.{Ledger, Run, Demand3}
 use Rattle.history.proofs.Demand.{Stepped, Lawful}
 use Rattle.history.proofs.Demand.{demand3 as any-demand3}
-use Rattle.month.specs.Month.{isDays, monthRules, dollars, rulesOf, boardOf, monthOf, freshMonth, openOf, answerOf, orReachable, hourOf, dayOf, totalOf, standingOf}
+use Rattle.board.specs.Board.{isDays, monthRules, dollars}
+use Rattle.month.specs.Month.{rulesOf, boardOf, monthOf, freshMonth, openOf, answerOf, orReachable, hourOf, dayOf, totalOf, standingOf}
 use Rattle.month.specs.declared.Month.{Month}
 use Rattle.month.specs.declared.Booked.{Booked}
-use Rattle.month.specs.declared.Told.{Told}
+use Rattle.board.specs.declared.Told.{Told}
 use Rattle.month.specs.declared.Counted.{Counted}
 use Rattle.month.proofs.Sound.{month-sound}
 use Rattle.month.proofs.Month.«open».Reads as open-reads

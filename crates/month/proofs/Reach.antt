@@ -19,10 +19,11 @@ use Rattle.history.specs.History.{Entry}
 use Rattle.history.specs.Demand.{Run, opened, called, Reachable}
 use Rattle.history.proofs.Demand.{come, well}
 use Rattle.history.proofs.Reach.{Able, reached}
-use Rattle.month.specs.Month.{isDays, amountRefusal, feeRefusal, monthRules, rulesOf, boardOf, monthOf, freshMonth, openOf, answerOf, orReachable, hourOf, dayOf, totalOf, standingOf}
+use Rattle.board.specs.Board.{isDays, amountRefusal, feeRefusal, monthRules}
+use Rattle.month.specs.Month.{rulesOf, boardOf, monthOf, freshMonth, openOf, answerOf, orReachable, hourOf, dayOf, totalOf, standingOf}
 use Rattle.month.specs.declared.Month.{Month}
 use Rattle.month.specs.declared.Booked.{Booked}
-use Rattle.month.specs.declared.Told.{Told}
+use Rattle.board.specs.declared.Told.{Told}
 use Rattle.month.specs.declared.Counted.{Counted}
 use Rattle.month.proofs.Sound.{month-sound, month-good, well-days}
 use Rattle.month.proofs.Demand.{booked, told, Answers, monthLedger, month-laws}

@@ -1,7 +1,7 @@
 -- The month's rules are sound, and a well-formed month is a board in form. Assumes nothing.
 use Prim.Native.Nat.{ℕ, suc, _≤_}
-use mathlib.Core.Path.{_≡_, refl, ap, _∙_}
-use mathlib.Core.Bool.{Bool, true, _&&_}
+use mathlib.Core.Path.{_≡_, refl, ap}
+use mathlib.Core.Bool.{true, _&&_}
 use native.Mathlib.Omega.{arith}
 use lib.Dec.{leb, eqb}
 use lib.IntN.{ℤ, pos, negsuc, natAbs}
@@ -13,7 +13,8 @@ use Rattle.history.specs.Rules.{Sound}
 use Rattle.history.specs.Board.{wellFormed}
 use Rattle.history.proofs.Days.{hours-even}
 use Rattle.history.proofs.Board.{Good, well-good}
-use Rattle.month.specs.Month.{isDays, monthRules, rulesOf, boardOf}
+use Rattle.board.specs.Board.{isDays, monthRules}
+use Rattle.month.specs.Month.{rulesOf, boardOf}
 use Rattle.month.specs.declared.Month.{Month}
 
 zero-is : (a : ℤ) → eqb (natAbs a) 0 ≡ true → a ≡ pos 0

@@ -1,27 +1,25 @@
 -- The sums of a well-formed month: each amount is in its range, so a day's sum and the month's can be taken, and the total fits. Assumes nothing.
-use Prim.Native.Nat.{ℕ, _+_, _*_, _≤_, _<_}
-use mathlib.Core.Path.{_≡_, refl, sym, ap, _∙_}
+use Prim.Native.Nat.{ℕ, _+_, _≤_, _<_}
+use mathlib.Core.Path.{_≡_, refl, ap, _∙_}
 use mathlib.Core.Bool.{Bool, true, false, _&&_}
 use mathlib.Core.List.{List}
 use native.Mathlib.Omega.{arith}
-use lib.Dec.{leb, ltb, eqb}
-use lib.IntN.{ℤ, pos, natAbs, _-ℤ_}
+use lib.Dec.{ltb, eqb}
+use lib.IntN.{ℤ, pos, natAbs}
 use lib.ListN.{length, getD, take, drop, length-take, length-drop, List·getD-eq-default}
 use lib.Seq.{getD-take, getD-drop}
 use borrow.Author.Tests.{ltb-true, ltb-false, eqb-true, le-leb}
-use Rattle.whole.specs.Choice.{pick, unless}
-use Rattle.whole.specs.Folds.{sumTo, sumOf}
+use Rattle.whole.specs.Choice.{pick}
+use Rattle.whole.specs.Folds.{sumTo}
 use Rattle.whole.specs.Whole.{minus, Within, inRange, summable, summed}
 use Rattle.whole.proofs.Choice.{and-both, both, passed}
-use Rattle.whole.proofs.Signed.{difference, size-within}
+use Rattle.whole.proofs.Signed.{size-within}
 use Rattle.whole.proofs.Sums.{in-within, in-within-below, within-in, inside-all, sum-within, sum-part, summed-is}
-use Rattle.units.specs.Refusals.{badMoney}
 use Rattle.history.specs.Rules.{placesOf}
-use Rattle.history.specs.Board.{wellFormed}
 use Rattle.history.proofs.Board.{Good}
-use Rattle.month.specs.Month.{amountRefusal, feeRefusal, rulesOf, boardOf}
+use Rattle.board.specs.Board.{amountRefusal}
+use Rattle.month.specs.Month.{rulesOf, boardOf}
 use Rattle.month.specs.declared.Month.{Month}
-use Rattle.month.proofs.Sound.{month-good}
 
 -- an amount that is not refused, and one that is 0
 amount-of : (a : ℤ) → amountRefusal a ≡ 0 → Within 1000000000 a

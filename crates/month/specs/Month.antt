@@ -1,56 +1,23 @@
--- The month ledger (document 01, "The ledger"): its rules, and what each call and read-out answers, as an instance of the theory of any ledger.
+-- The month ledger (document 01, "The ledger"): what each call and read-out on a month by value answers, as an instance of the theory of any ledger.
 use Prim.Native.Nat.{ℕ}
-use mathlib.Core.Bool.{Bool, true, false, _&&_}
-use mathlib.Core.List.{List, []}
-use lib.Dec.{leb, ltb, eqb}
+use mathlib.Core.Bool.{Bool, false, _&&_}
+use mathlib.Core.List.{List}
+use lib.Dec.{ltb, eqb}
 use lib.IntN.{ℤ, pos, natAbs}
 use lib.ListN.{getD, replicate}
 use Rattle.whole.specs.Choice.{pick, unless}
 use Rattle.whole.specs.Folds.{allTo}
-use Rattle.whole.specs.Whole.{minus, inRange}
-use Rattle.units.specs.Refusals.{badMoney, notInMonth, notReachable}
-use Rattle.units.specs.declared.Dollars.{Dollars}
-use Rattle.history.specs.Rules.{Call, Rules, placeIn, placesOf}
-use Rattle.history.specs.Board.{Board, wellFormed, rulingOn, handed, refusalOf, nextOf, hourOn, dayOn, totalOn, hoursOn}
+use Rattle.units.specs.Refusals.{notInMonth, notReachable}
+use Rattle.history.specs.Rules.{Call, Rules, placesOf}
+use Rattle.history.specs.Board.{Board, wellFormed, refusalOf, nextOf, hourOn, dayOn, totalOn, hoursOn}
+use Rattle.board.specs.Board.{isDays, amountRefusal, monthRules, dollars, toldOf}
+use Rattle.board.specs.declared.Head.{Head}
+use Rattle.board.specs.declared.Told.{Told}
 use Rattle.month.specs.declared.Month.{Month}
-use Rattle.month.specs.declared.Head.{Head}
 use Rattle.month.specs.declared.Booked.{Booked}
-use Rattle.month.specs.declared.Headed.{Headed}
-use Rattle.month.specs.declared.Told.{Told}
 use Rattle.month.specs.declared.Counted.{Counted}
 
--- ---- the rules
-
--- "A month of 28 to 31 days"
-abbrev pub isDays : ℕ → Bool
-isDays days = leb 28 days && leb days 31
-
--- "ledger amount outside -10^9 to 10^9"
-abbrev pub amountRefusal : ℤ → ℕ
-amountRefusal amount = unless (inRange (minus 1000000000) (pos 1000000000) amount) badMoney 0
-
--- "loss fee outside 0 to 10^11"
-abbrev pub feeRefusal : ℤ → ℕ
-feeRefusal fee = unless (inRange (pos 0) (pos 100000000000) fee) badMoney 0
-
--- "has 744 hour places, all empty at the start"; "hours are 0 to 23"
-abbrev pub monthRules : ℕ → Rules ℤ
-monthRules days =
-    record {
-      opens = isDays days;
-      days = days;
-      hoursOf = λ _. 24;
-      places = 744;
-      blank = pos 0;
-      isBlank = λ amount. eqb (natAbs amount) 0;
-      check = amountRefusal;
-      checkFee = feeRefusal;
-      worth = λ amount. amount;
-    }
-
--- an hour's place: 24 for each day before, and itself
-abbrev pub placeOf : ℕ → ℕ → ℕ
-placeOf = placeIn (monthRules 31)
+-- ---- a place in form
 
 -- a filled place is one of the month's and holds an amount; an empty one holds 0 (the board's `fitsAt`, at a place's own mark and amount)
 abbrev pub placeFits : ℕ → ℕ → Bool → ℤ → Bool
@@ -59,10 +26,7 @@ placeFits days p filled amount = pick filled (ltb p (placesOf (monthRules days))
 abbrev pub placesFit : ℕ → List Bool → List ℤ → Bool
 placesFit days filled amounts = allTo 744 (λ p. placeFits days p (getD filled p false) (getD amounts p (pos 0)))
 
--- ---- the ledger as a board, whole and in place
-
-abbrev pub dollars : ℤ → Dollars
-dollars amount = record { 0 = amount }
+-- ---- the ledger as a board
 
 abbrev pub rulesOf : Month → Rules ℤ
 rulesOf m = monthRules (m .days)
@@ -72,9 +36,6 @@ boardOf m = record { closed = m .closed; fee = m .fee .0; marks = m .filled; ite
 
 abbrev pub monthOf : ℕ → Board ℤ → Month
 monthOf days b = record { days = days; closed = b .closed; fee = dollars (b .fee); filled = b .marks; amounts = b .items }
-
-abbrev pub boardIn : Head → List Bool → List ℤ → Board ℤ
-boardIn head filled amounts = record { closed = head .closed; fee = head .fee .0; marks = filled; items = amounts }
 
 -- ---- the calls
 
@@ -98,17 +59,7 @@ openOf days = record { refusal = unless (isDays days) notInMonth 0; month = pick
 unfoldable pub answerOf : Month → Call ℤ → Booked
 answerOf m c = record { refusal = refusalOf (rulesOf m) (boardOf m) c; month = monthOf (m .days) (nextOf (rulesOf m) (boardOf m) c) }
 
--- a call that changes no place, on the head alone
-unfoldable pub headedOf : Head → Call ℤ → Headed
-headedOf head c =
-    let b = boardIn head [] [] in
-    let n = handed (monthRules (head .days)) b c in
-    record { refusal = rulingOn (monthRules (head .days)) b c; head = record { days = head .days; closed = n .closed; fee = dollars (n .fee) } }
-
 -- ---- the read-outs: 22, then what the board tells
-
-abbrev pub toldOf : ℕ × ℤ → Told
-toldOf t = record { refusal = t .0; amount = dollars (t .1) }
 
 abbrev pub orReachable : Month → ℕ × ℤ → Told
 orReachable m t = toldOf (pick (wellFormed (rulesOf m) (boardOf m)) t (notReachable, pos 0))

@@ -1,21 +1,22 @@
 // The month ledger: 744 hour places, a loss fee, and a mark that stops every change. It knows nothing of readings.
 //
-// Each call stands once, in place, on two lent runs (filled marks and amounts, in dollars) with the head by value: `post_in` and so on. The
-// calls on a `Month` by value refuse with 22 a ledger that no run of calls hands back, and go through those.
+// The calls on a `Month` by value refuse with 22 a ledger that no run of calls hands back, and go through the calls in place (crate board).
 ghost use mathlib.Core.Path.{_≡_};
 ghost use mathlib.Core.Bool.{false};
 ghost use Prim.Native.Nat.{_+_, _≤_};
 ghost use lib.IntN.{pos, _-ℤ_};
-ghost use lib.ListN.{length, getD, set, take, drop};
+ghost use lib.ListN.{length, getD, take, drop};
 ghost use mir.Syntax.{w64};
 ghost use mir.Val.{SFits};
-ghost use Rattle.whole.specs.Choice.{kept};
 ghost use Rattle.whole.specs.Folds.{countTo};
 ghost use Rattle.whole.specs.Whole.{summed};
-ghost use Rattle.history.specs.Rules.{Call, inside, rulingAt};
-ghost use Rattle.history.specs.Board.{told, wellFormed, rulingOn, handed};
+ghost use Rattle.history.specs.Rules.{Call};
+ghost use Rattle.history.specs.Board.{wellFormed};
 ghost use Rattle.units.specs.Refusals.{notReachable};
-ghost use Rattle.month.specs.Month.{isDays, placeFits, placesFit, headOf, bookedOf, amountRefusal, feeRefusal, monthRules, placeOf, dollars, rulesOf, boardOf, boardIn, freshMonth, openOf, answerOf, headedOf, toldOf, hourOf, dayOf, totalOf, standingOf};
+ghost use Rattle.board.specs.Board.{isDays, dollars, toldOf};
+ghost use Rattle.month.specs.Month.{placeFits, placesFit, headOf, bookedOf, rulesOf, boardOf, freshMonth, openOf, answerOf, hourOf, dayOf, totalOf, standingOf};
+use board::Head;
+use board::Told;
 use units::Dollars;
 use units::refusals;
 
@@ -27,30 +28,13 @@ pub struct Month {
     pub amounts: [i64; Month::PLACES],
 }
 
-// A month without its places.
-pub struct Head {
-    pub days: u8,
-    pub closed: bool,
-    pub fee: Dollars,
-}
-
 // What a call answers: its refusal, and the ledger that it hands back.
 pub struct Booked {
     pub refusal: u8,
     pub month: Month,
 }
 
-pub struct Headed {
-    pub refusal: u8,
-    pub head: Head,
-}
-
-// What a read-out answers.
-pub struct Told {
-    pub refusal: u8,
-    pub amount: Dollars,
-}
-
+// What the count of standing hours answers.
 pub struct Counted {
     pub refusal: u8,
     pub hours: usize,
@@ -62,202 +46,13 @@ fn is_days(days: u8) -> bool
     (28 <= days) & (days <= 31)
 }
 
-fn in_month(days: u8, day: u8, hour: u8) -> bool
-    ensures { λ r. ⌜ r ≡ inside (monthRules days) day hour ⌝ }
-{
-    (1 <= day) & (day <= days) & (hour < 24)
-}
-
-fn amount_refusal(amount: Dollars) -> u8
-    ensures { λ r. ⌜ r ≡ amountRefusal (amount .0) ⌝ }
-{
-    let a = amount.0;
-    whole::unless(
-        whole::within(a, Month::LEAST, Month::MOST),
-        refusals::BAD_MONEY,
-        0,
-    )
-}
-
-fn fee_refusal(fee: Dollars) -> u8
-    ensures { λ r. ⌜ r ≡ feeRefusal (fee .0) ⌝ }
-{
-    let a = fee.0;
-    whole::unless(whole::within(a, 0, Month::FEE), refusals::BAD_MONEY, 0)
-}
-
-fn place_of(day: u8, hour: u8) -> usize
-    ensures { λ r. ⌜ r ≡ placeOf day hour ⌝ }
-{
-    if day == 0 {
-        return hour as usize;
-    }
-    (day as usize - 1) * 24 + hour as usize
-}
-
-// Past the end no place is filled, every amount is 0, and nothing is written.
-fn filled_at(filled: &[bool], at: usize) -> bool
-    ensures { λ r. ⌜ r ≡ getD (now (filled .entry)) at false ⌝ }
-{
-    if filled.len() <= at {
-        return false;
-    }
-    filled[at]
-}
-
-fn amount_at(amounts: &[i64], at: usize) -> Dollars
-    ensures { λ r. ⌜ r ≡ dollars (getD (now (amounts .entry)) at (pos 0)) ⌝ }
-{
-    if amounts.len() <= at {
-        return Dollars(0);
-    }
-    let a = amounts[at];
-    Dollars(a)
-}
-
-fn mark(filled: &mut [bool], at: usize, fill: bool)
-    ensures { λ r. ⌜ now (filled .exit) ≡ set (now (filled .entry)) at fill ⌝ }
-{
-    if at < filled.len() {
-        filled[at] = fill;
-    }
-}
-
-fn write(amounts: &mut [i64], at: usize, amount: Dollars)
-    ensures { λ r. ⌜ now (amounts .exit) ≡ set (now (amounts .entry)) at (amount .0) ⌝ }
-{
-    let a = amount.0;
-    if at < amounts.len() {
-        amounts[at] = a;
-    }
-}
-
-// 9, 6, then what the rest says.
-fn ruling_at(head: Head, day: u8, hour: u8, rest: u8) -> u8
-    ensures { λ r. ⌜ r ≡ rulingAt (monthRules (head .days)) (head .closed) day hour rest ⌝ }
-{
-    whole::unless(
-        !head.closed,
-        refusals::MONTH_CLOSED,
-        whole::unless(in_month(head.days, day, hour), refusals::NOT_IN_MONTH, rest),
-    )
-}
-
-// Changes what stands at an hour, unless the call is refused.
-fn placing(
-    head: Head,
-    filled: &mut [bool],
-    amounts: &mut [i64],
-    day: u8,
-    hour: u8,
-    rest: u8,
-    fill: bool,
-    amount: Dollars,
-) -> u8
-    ensures number { λ r. ⌜ r ≡ rulingAt (monthRules (head .days)) (head .closed) day hour rest ⌝ }
-    ensures marks { λ r. ⌜ now (filled .exit) ≡ kept (rulingAt (monthRules (head .days)) (head .closed) day hour rest) (set (now (filled .entry)) (placeOf day hour) fill) (now (filled .entry)) ⌝ }
-    ensures items { λ r. ⌜ now (amounts .exit) ≡ kept (rulingAt (monthRules (head .days)) (head .closed) day hour rest) (set (now (amounts .entry)) (placeOf day hour) (amount .0)) (now (amounts .entry)) ⌝ }
-{
-    let k = ruling_at(head, day, hour, rest);
-    if k == 0 {
-        let at = place_of(day, hour);
-        mark(filled, at, fill);
-        write(amounts, at, amount);
-    }
-    k
-}
-
-// Post in place.
-pub fn post_in(
-    head: Head,
-    filled: &mut [bool],
-    amounts: &mut [i64],
-    day: u8,
-    hour: u8,
-    amount: Dollars,
-) -> u8
-    ensures answers { λ r. ⌜ r ≡ rulingOn (monthRules (head .days)) (boardIn head (now (filled .entry)) (now (amounts .entry))) (Call.post day hour (amount .0)) ⌝ }
-    ensures leaves { λ r. ⌜ boardIn head (now (filled .exit)) (now (amounts .exit)) ≡ handed (monthRules (head .days)) (boardIn head (now (filled .entry)) (now (amounts .entry))) (Call.post day hour (amount .0)) ⌝ }
-{
-    let taken = filled_at(filled, place_of(day, hour));
-    let place = whole::unless(!taken, refusals::PLACE_FILLED, 0);
-    let rest = whole::or_else(amount_refusal(amount), place);
-    placing(head, filled, amounts, day, hour, rest, true, amount)
-}
-
-// Replace in place.
-pub fn replace_in(
-    head: Head,
-    filled: &mut [bool],
-    amounts: &mut [i64],
-    day: u8,
-    hour: u8,
-    amount: Dollars,
-) -> u8
-    ensures answers { λ r. ⌜ r ≡ rulingOn (monthRules (head .days)) (boardIn head (now (filled .entry)) (now (amounts .entry))) (Call.replace day hour (amount .0)) ⌝ }
-    ensures leaves { λ r. ⌜ boardIn head (now (filled .exit)) (now (amounts .exit)) ≡ handed (monthRules (head .days)) (boardIn head (now (filled .entry)) (now (amounts .entry))) (Call.replace day hour (amount .0)) ⌝ }
-{
-    let taken = filled_at(filled, place_of(day, hour));
-    let place = whole::unless(taken, refusals::PLACE_EMPTY, 0);
-    let rest = whole::or_else(amount_refusal(amount), place);
-    placing(head, filled, amounts, day, hour, rest, true, amount)
-}
-
-// Withdraw in place.
-pub fn withdraw_in(head: Head, filled: &mut [bool], amounts: &mut [i64], day: u8, hour: u8) -> u8
-    ensures answers { λ r. ⌜ r ≡ rulingOn (monthRules (head .days)) (boardIn head (now (filled .entry)) (now (amounts .entry))) (Call.withdraw day hour) ⌝ }
-    ensures leaves { λ r. ⌜ boardIn head (now (filled .exit)) (now (amounts .exit)) ≡ handed (monthRules (head .days)) (boardIn head (now (filled .entry)) (now (amounts .entry))) (Call.withdraw day hour) ⌝ }
-{
-    let taken = filled_at(filled, place_of(day, hour));
-    let rest = whole::unless(taken, refusals::PLACE_EMPTY, 0);
-    placing(head, filled, amounts, day, hour, rest, false, Dollars(0))
-}
-
-// Sets the loss fee, in place: no place is touched.
-pub fn loss_fee_in(head: Head, amount: Dollars) -> Headed
-    ensures { λ r. ⌜ r ≡ headedOf head (Call.lossFee (amount .0)) ⌝ }
-{
-    let k = whole::unless(!head.closed, refusals::MONTH_CLOSED, fee_refusal(amount));
-    if k == 0 {
-        let next = Head {
-            days: head.days,
-            closed: head.closed,
-            fee: amount,
-        };
-        return Headed {
-            refusal: k,
-            head: next,
-        };
-    }
-    Headed {
-        refusal: k,
-        head: head,
-    }
-}
-
-// Closes the month, in place.
-pub fn close_in(head: Head) -> Headed
-    ensures { λ r. ⌜ r ≡ headedOf head Call.close ⌝ }
-{
-    let fee = head.fee;
-    let next = Head {
-        days: head.days,
-        closed: true,
-        fee: fee,
-    };
-    Headed {
-        refusal: whole::unless(!head.closed, refusals::MONTH_CLOSED, 0),
-        head: next,
-    }
-}
-
 // Whether a place of the month that is filled has an amount in the range, and any other place is empty with 0.
 fn place_fits(days: u8, p: usize, filled: bool, amount: Dollars) -> bool
     ensures { λ r. ⌜ r ≡ placeFits days p filled (amount .0) ⌝ }
 {
     let a = amount.0;
     if filled {
-        (p < days as usize * 24) & (amount_refusal(amount) == 0)
+        (p < days as usize * 24) & whole::within(a, Month::LEAST, Month::MOST)
     } else {
         a == 0
     }
@@ -333,16 +128,10 @@ fn put_together(
     }
 }
 
-// A read-out's answer: a refusal has the amount 0.
-fn answer(k: u8, amount: Dollars) -> Told
-    ensures { λ r. ⌜ r ≡ toldOf (told k (amount .0)) ⌝ }
+// A read-out's refusal: the amount is 0.
+fn refused(k: u8) -> Told
+    ensures { λ r. ⌜ r ≡ toldOf (k, pos 0) ⌝ }
 {
-    if k == 0 {
-        return Told {
-            refusal: k,
-            amount: amount,
-        };
-    }
     Told {
         refusal: k,
         amount: Dollars(0),
@@ -352,11 +141,11 @@ fn answer(k: u8, amount: Dollars) -> Told
 impl Month {
     pub const PLACES: usize = 744;
 
-    pub const LEAST: i64 = -1_000_000_000;
+    pub const LEAST: i64 = board::LEAST;
 
-    pub const MOST: i64 = 1_000_000_000;
+    pub const MOST: i64 = board::MOST;
 
-    pub const FEE: i64 = 100_000_000_000;
+    pub const FEE: i64 = board::FEE;
 
     // A month of that many days with every place empty.
     fn fresh(days: u8) -> Month
@@ -377,7 +166,10 @@ impl Month {
     {
         let days = self.days;
         let fee = self.fee;
-        is_days(days) & (fee_refusal(fee) == 0) & places_fit(days, &self.filled, &self.amounts)
+        let f = fee.0;
+        is_days(days)
+            & whole::within(f, 0, Month::FEE)
+            & places_fit(days, &self.filled, &self.amounts)
     }
 
     fn head(self) -> Head
@@ -425,7 +217,7 @@ impl Month {
         let head = self.head();
         let mut filled = self.filled;
         let mut amounts = self.amounts;
-        let k = post_in(head, &mut filled, &mut amounts, day, hour, amount);
+        let k = board::post_in(head, &mut filled, &mut amounts, day, hour, amount);
         put_together(k, head, filled, amounts)
     }
 
@@ -438,7 +230,7 @@ impl Month {
         let head = self.head();
         let mut filled = self.filled;
         let mut amounts = self.amounts;
-        let k = replace_in(head, &mut filled, &mut amounts, day, hour, amount);
+        let k = board::replace_in(head, &mut filled, &mut amounts, day, hour, amount);
         put_together(k, head, filled, amounts)
     }
 
@@ -451,7 +243,7 @@ impl Month {
         let head = self.head();
         let mut filled = self.filled;
         let mut amounts = self.amounts;
-        let k = withdraw_in(head, &mut filled, &mut amounts, day, hour);
+        let k = board::withdraw_in(head, &mut filled, &mut amounts, day, hour);
         put_together(k, head, filled, amounts)
     }
 
@@ -464,7 +256,7 @@ impl Month {
         }
         let filled = self.filled;
         let amounts = self.amounts;
-        let next = loss_fee_in(self.head(), amount);
+        let next = board::loss_fee_in(self.head(), amount);
         let head = next.head;
         put_together(next.refusal, head, filled, amounts)
     }
@@ -478,7 +270,7 @@ impl Month {
         }
         let filled = self.filled;
         let amounts = self.amounts;
-        let shut = close_in(self.head());
+        let shut = board::close_in(self.head());
         let head = shut.head;
         put_together(shut.refusal, head, filled, amounts)
     }
@@ -488,16 +280,10 @@ impl Month {
         ensures { λ r. ⌜ r ≡ hourOf self day hour ⌝ }
     {
         if !self.well_formed() {
-            return answer(refusals::NOT_REACHABLE, Dollars(0));
+            return refused(refusals::NOT_REACHABLE);
         }
-        let here = place_of(day, hour);
-        let place = whole::unless(filled_at(&self.filled, here), refusals::PLACE_EMPTY, 0);
-        let k = whole::unless(
-            in_month(self.days, day, hour),
-            refusals::NOT_IN_MONTH,
-            place,
-        );
-        answer(k, amount_at(&self.amounts, here))
+        let head = self.head();
+        board::hour_in(head, &self.filled, &self.amounts, day, hour)
     }
 
     // A day's sum.
@@ -505,12 +291,15 @@ impl Month {
         ensures { λ r. ⌜ r ≡ dayOf self day ⌝ }
     {
         if !self.well_formed() {
-            return answer(refusals::NOT_REACHABLE, Dollars(0));
+            return refused(refusals::NOT_REACHABLE);
         }
-        if !in_month(self.days, day, 0) {
-            return answer(refusals::NOT_IN_MONTH, Dollars(0));
+        if !((1 <= day) & (day <= self.days)) {
+            return refused(refusals::NOT_IN_MONTH);
         }
-        answer(0, day_sum(&self.amounts, place_of(day, 0)))
+        Told {
+            refusal: 0,
+            amount: day_sum(&self.amounts, (day as usize - 1) * 24),
+        }
     }
 
     // The month total: the amounts less the loss fee.
@@ -518,10 +307,13 @@ impl Month {
         ensures { λ r. ⌜ r ≡ totalOf self ⌝ }
     {
         if !self.well_formed() {
-            return answer(refusals::NOT_REACHABLE, Dollars(0));
+            return refused(refusals::NOT_REACHABLE);
         }
         let s = whole::sum(&self.amounts);
-        answer(0, less(Dollars(s.sum), self.fee))
+        Told {
+            refusal: 0,
+            amount: less(Dollars(s.sum), self.fee),
+        }
     }
 
     // How many hours stand.

@@ -4,7 +4,7 @@ use mathlib.Core.Path.{_≡_, _∙_}
 use mathlib.Core.Bool.{not}
 use Rattle.whole.specs.Choice.{unless, orElse}
 use Rattle.units.specs.Refusals.{notOpen, notInMonth}
-use Rattle.month.specs.Month.{isDays}
+use Rattle.board.specs.Board.{isDays}
 use Rattle.intake.proofs.Calls.{or-14}
 use Rattle.intake.proofs.open_refusal.Statement.{statement}
 use Rattle.intake.proofs.open_refusal.Tie as tie

@@ -11,7 +11,7 @@ use Rattle.whole.specs.declared.Summed.{Summed}
 use Rattle.whole.proofs.Choice.{and-both}
 use Rattle.whole.proofs.Signed.{signed}
 use Rattle.whole.proofs.Sums.{in-within-below}
-use Rattle.month.specs.Month.{dollars}
+use Rattle.board.specs.Board.{dollars}
 use Rattle.intake.specs.Desk.{settledIn}
 use Rattle.intake.proofs.Totals.{summed-within}
 use Rattle.intake.proofs.settle.Statement.{statement}

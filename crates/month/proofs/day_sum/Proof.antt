@@ -1,13 +1,13 @@
 -- `month::day_sum` meets its contract: the part is 24 amounts long. Assumes nothing.
 use Prim.Native.Nat.{ℕ, _+_, _-_}
-use mathlib.Core.Path.{_≡_, refl, ap, _∙_}
+use mathlib.Core.Path.{_≡_, ap, _∙_}
 use native.Mathlib.Omega.{arith}
 use lib.ListN.{take, drop}
 use mir.Syntax.{w64}
 use mir.Val.{SFits}
 use mir.Facts.{toZ-ofZ}
 use Rattle.whole.specs.Whole.{summed}
-use Rattle.month.specs.Month.{dollars}
+use Rattle.board.specs.Board.{dollars}
 use borrow.Author.Needs.{needs}
 use Rattle.month.proofs.day_sum.Statement.{statement}
 use Rattle.month.proofs.day_sum.Tie as tie

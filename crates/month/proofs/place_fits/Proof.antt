@@ -1,12 +1,13 @@
--- `month::place_fits` meets its contract: by the mark; the amount's bits are 0 just where it is. Assumes nothing.
-use mathlib.Core.Path.{_≡_, refl, sym, ap, ap₂, _∙_}
-use Prim.Native.Nat.{ℕ, _*_}
-use mathlib.Core.Bool.{Bool, _&&_}
-use lib.Dec.{ltb, eqb}
+-- `month::place_fits` meets its contract: by the mark; the range test is the amount's refusal, and its bits are 0 just where it is. Assumes nothing.
+use mathlib.Core.Path.{ap, _∙_}
+use lib.IntN.{pos}
 use mir.Syntax.{w64}
 use mir.Val.{SFits}
-use Rattle.history.proofs.Days.{hours-even}
+use mir.Facts.{toZ-ofZ}
+use Rattle.whole.specs.Whole.{minus, inRange}
 use Rattle.whole.proofs.Signed.{zero-bits}
+use Rattle.history.proofs.Days.{hours-even}
+use Rattle.month.proofs.Core.{test-is}
 use borrow.Author.Needs.{needs}
 use Rattle.month.proofs.place_fits.Statement.{statement}
 use Rattle.month.proofs.place_fits.Tie as tie
@@ -14,8 +15,8 @@ use Rattle.month.proofs.place_fits.Tie as tie
 mul-result : tie.Need-mul-result
 mul-result c = search needs
 
-amount-refusal-requires : tie.Need-amount-refusal-requires
-amount-refusal-requires c κs = search needs
+within-requires : tie.Need-within-requires
+within-requires c κs = search needs
 
 amount-fits : (c : tie.After-struct-told) → SFits w64 (c .before .args .amount .0)
 amount-fits c = search needs
@@ -24,7 +25,8 @@ returns : tie.Need-returns
 returns c =
     let t = c .before in
     let a = t .before .before .args in
-    rw (t .if1 .taken, c .amount-refusal .ensures, hours-even 24 (a .days))
+    let test = c .within .ensures ∙ ap (inRange (minus 1000000000) (pos 1000000000)) (toZ-ofZ (amount-fits (t .before))) in
+    rw (t .if1 .taken, test, test-is (inRange (minus 1000000000) (pos 1000000000) (a .amount .0)), hours-even 24 (a .days))
 
 returns-2 : tie.Need-returns-2
 returns-2 c =
@@ -32,4 +34,4 @@ returns-2 c =
     rw (c .if1 .left) (zero-bits f)
 
 pub place-fits-spec : {M : Type 1} → statement M
-place-fits-spec = tie.close (tie.spec mul-result amount-refusal-requires returns returns-2)
+place-fits-spec = tie.close (tie.spec mul-result within-requires returns returns-2)

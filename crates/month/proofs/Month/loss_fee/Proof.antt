@@ -1,13 +1,15 @@
 -- `Month::loss_fee` meets its contract: 22, and then the call on the head. Assumes nothing.
-use mathlib.Core.Path.{_≡_, refl, sym, ap, _∙_}
-use mathlib.Core.Bool.{true, false}
+use mathlib.Core.Path.{_≡_, sym, ap, _∙_}
+use mathlib.Core.Bool.{true}
 use borrow.Author.Tests.{not-true, not-false}
 use Rattle.history.specs.Rules.{Call}
 use Rattle.history.specs.Board.{wellFormed}
-use Rattle.month.specs.Month.{rulesOf, boardOf, headOf, bookedOf, headedOf}
-use Rattle.month.specs.declared.Head.{Head}
-use Rattle.month.specs.declared.Headed.{Headed}
-use Rattle.month.proofs.Core.{answer-22, answer-in, heads-fee}
+use Rattle.board.specs.Board.{headedOf}
+use Rattle.month.specs.Month.{rulesOf, boardOf, headOf, bookedOf}
+use Rattle.board.specs.declared.Head.{Head}
+use Rattle.board.specs.declared.Headed.{Headed}
+use Rattle.board.proofs.Core.{heads-fee}
+use Rattle.month.proofs.Core.{answer-22, answer-in}
 use borrow.Author.Needs.{needs}
 use Rattle.month.proofs.Month.loss_fee.Statement.{statement}
 use Rattle.month.proofs.Month.loss_fee.Tie as tie

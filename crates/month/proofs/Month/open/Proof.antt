@@ -1,5 +1,5 @@
 -- `Month::open` meets its contract: by its one test. Assumes nothing.
-use mathlib.Core.Path.{_≡_, refl, sym, ap, ap₂, _∙_}
+use mathlib.Core.Path.{sym, _∙_}
 use Rattle.month.specs.Month.{openOf}
 use borrow.Author.Needs.{needs}
 use Rattle.month.proofs.Month.open.Statement.{statement}

@@ -1,27 +1,23 @@
 -- `Month::total` meets its contract: 22, and then the sum of every place less the fee, which fits. Assumes nothing.
-use mathlib.Core.Path.{_≡_, refl, sym, ap, ap₂, _∙_}
-use Prim.Native.Nat.{ℕ, _+_, _≤_}
-use mathlib.Core.Bool.{Bool, true, false}
-use native.Mathlib.Omega.{arith}
-use lib.IntN.{ℤ, pos}
-use lib.ListN.{length, getD}
-use borrow.Author.Tests.{not-true, not-false}
-use Rattle.history.specs.Board.{told, wellFormed}
-use Rattle.month.specs.Month.{rulesOf, boardOf, placeOf, toldOf}
-use lib.IntN.{_-ℤ_}
+use mathlib.Core.Path.{_≡_, sym, ap, _∙_}
+use mathlib.Core.Bool.{true}
+use lib.IntN.{ℤ, pos, _-ℤ_}
+use lib.ListN.{getD}
 use mir.Syntax.{w64}
 use mir.Val.{SFits, toZ, ofZ}
 use mir.Facts.{toZ-ofZ}
-use Rattle.whole.specs.Whole.{summed}
+use borrow.Author.Tests.{not-true, not-false}
+use Rattle.whole.specs.Folds.{sumTo}
 use Rattle.whole.specs.declared.Summed.{Summed}
-use Rattle.units.specs.declared.Dollars.{Dollars}
 use Rattle.whole.proofs.Signed.{signed}
+use Rattle.units.specs.declared.Dollars.{Dollars}
+use Rattle.history.specs.Board.{wellFormed}
 use Rattle.history.proofs.Board.{Good}
-use Rattle.month.specs.Month.{totalOf}
+use Rattle.board.specs.Board.{toldOf}
+use Rattle.month.specs.Month.{rulesOf, boardOf, totalOf}
 use Rattle.month.proofs.Sound.{month-good}
 use Rattle.month.proofs.Sums.{all-summed, all-within, fee-within}
-use Rattle.month.proofs.Readouts.{told-22, total-in}
-use Rattle.whole.specs.Folds.{sumTo}
+use Rattle.month.proofs.Readouts.{told-22, total-told}
 use borrow.Author.Needs.{needs}
 use Rattle.month.proofs.Month.total.Statement.{statement}
 use Rattle.month.proofs.Month.total.Tie as tie
@@ -29,12 +25,12 @@ use Rattle.month.proofs.Month.total.Tie as tie
 well-formed-requires : tie.Need-well-formed-requires
 well-formed-requires c κs = search needs
 
-answer-requires : tie.Need-answer-requires
-answer-requires c κs = search needs
+refused-requires : tie.Need-refused-requires
+refused-requires c κs = search needs
 
 returns : tie.Need-returns
 unfolding totalOf
-returns c = c .answer .ensures ∙ told-22 (c .before .before .before .args .t1) _ (sym (c .before .before .well-formed .ensures) ∙ not-true _ (c .before .if1 .taken))
+returns c = c .refused .ensures ∙ told-22 (c .before .before .before .args .t1) _ (sym (c .before .before .well-formed .ensures) ∙ not-true _ (c .before .if1 .taken))
 
 sum-requires : tie.Need-sum-requires
 sum-requires c κs = search needs
@@ -62,26 +58,21 @@ less-requires c κs =
     let f = fee-within m g in
     rw (sum-is s) (omega signed)
 
-answer-requires-2 : tie.Need-answer-requires-2
-answer-requires-2 c κs = search needs
-
 returns-2 : tie.Need-returns-2
 returns-2 c =
-    let l = c .before in
-    let s = l .before .before .before in
+    let s = c .before .before .before in
     let e = s .before .before .before .before in
     let m = e .before .before .args .t1 in
-    let amount = ap (λ (z : Dollars). z .0) (l .less .ensures) ∙ ap (λ (z : ℤ). z -ℤ m .fee .0) (sum-is s) in
-    c .answer2 .ensures ∙ ap (λ (z : ℤ). toldOf (told 0 z)) amount ∙ total-in m (well e)
+    let amount = ap (λ (z : Dollars). z .0) (c .less .ensures) ∙ ap (λ (z : ℤ). z -ℤ m .fee .0) (sum-is s) in
+    ap (λ (z : ℤ). toldOf (0, z)) amount ∙ total-told m (well e)
 
 pub total-spec : {M : Type 1} → statement M
 total-spec =
     tie.close
     (tie.spec
     well-formed-requires
-    answer-requires
+    refused-requires
     returns
     sum-requires
     less-requires
-    answer-requires-2
     returns-2)

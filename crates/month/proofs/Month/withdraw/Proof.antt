@@ -1,6 +1,6 @@
 -- `Month::withdraw` meets its contract: 22, and then the call in place. Assumes nothing.
-use mathlib.Core.Path.{_≡_, refl, sym, ap, _∙_}
-use mathlib.Core.Bool.{true, false}
+use mathlib.Core.Path.{_≡_, refl, sym, _∙_}
+use mathlib.Core.Bool.{true}
 use borrow.Author.Tests.{not-true, not-false}
 use Rattle.history.specs.Rules.{Call}
 use Rattle.history.specs.Board.{wellFormed}

@@ -1,0 +1,67 @@
+-- The month ledger's rules (document 01, "The ledger"), and its board in place: a head and two runs.
+use Prim.Native.Nat.{ℕ}
+use mathlib.Core.Bool.{Bool, _&&_}
+use mathlib.Core.List.{List, []}
+use lib.Dec.{leb, eqb}
+use lib.IntN.{ℤ, pos, natAbs}
+use Rattle.whole.specs.Choice.{unless}
+use Rattle.whole.specs.Whole.{minus, inRange}
+use Rattle.units.specs.Refusals.{badMoney}
+use Rattle.units.specs.declared.Dollars.{Dollars}
+use Rattle.history.specs.Rules.{Call, Rules, placeIn}
+use Rattle.history.specs.Board.{Board, rulingOn, handed}
+use Rattle.board.specs.declared.Head.{Head}
+use Rattle.board.specs.declared.Headed.{Headed}
+use Rattle.board.specs.declared.Told.{Told}
+
+-- ---- the rules
+
+-- "A month of 28 to 31 days"
+abbrev pub isDays : ℕ → Bool
+isDays days = leb 28 days && leb days 31
+
+-- "ledger amount outside -10^9 to 10^9"
+abbrev pub amountRefusal : ℤ → ℕ
+amountRefusal amount = unless (inRange (minus 1000000000) (pos 1000000000) amount) badMoney 0
+
+-- "loss fee outside 0 to 10^11"
+abbrev pub feeRefusal : ℤ → ℕ
+feeRefusal fee = unless (inRange (pos 0) (pos 100000000000) fee) badMoney 0
+
+-- "has 744 hour places, all empty at the start"; "hours are 0 to 23"
+abbrev pub monthRules : ℕ → Rules ℤ
+monthRules days =
+    record {
+      opens = isDays days;
+      days = days;
+      hoursOf = λ _. 24;
+      places = 744;
+      blank = pos 0;
+      isBlank = λ amount. eqb (natAbs amount) 0;
+      check = amountRefusal;
+      checkFee = feeRefusal;
+      worth = λ amount. amount;
+    }
+
+-- an hour's place: 24 for each day before, and itself
+abbrev pub placeOf : ℕ → ℕ → ℕ
+placeOf = placeIn (monthRules 31)
+
+-- ---- the board in place
+
+abbrev pub dollars : ℤ → Dollars
+dollars amount = record { 0 = amount }
+
+abbrev pub boardIn : Head → List Bool → List ℤ → Board ℤ
+boardIn head filled amounts = record { closed = head .closed; fee = head .fee .0; marks = filled; items = amounts }
+
+-- a call that changes no place, on the head alone
+unfoldable pub headedOf : Head → Call ℤ → Headed
+headedOf head c =
+    let b = boardIn head [] [] in
+    let n = handed (monthRules (head .days)) b c in
+    record { refusal = rulingOn (monthRules (head .days)) b c; head = record { days = head .days; closed = n .closed; fee = dollars (n .fee) } }
+
+-- what a read-out tells
+abbrev pub toldOf : ℕ × ℤ → Told
+toldOf t = record { refusal = t .0; amount = dollars (t .1) }

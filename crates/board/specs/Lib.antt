@@ -1,0 +1,2 @@
+-- The month ledger in place.
+pub mod Board
