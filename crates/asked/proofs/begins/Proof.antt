@@ -12,7 +12,7 @@ is-letter-requires c κs = search needs
 
 returns : tie.Need-returns
 unfolding begins
-returns c = rw (c .before .before .is-between .ensures, c .is-letter .ensures)
+returns c = simp (c .before .before .is-between .ensures, c .is-letter .ensures)
 
 pub begins-spec : {M : Type 1} → statement M
 begins-spec = tie.close (tie.spec is-between-requires is-letter-requires returns)

@@ -15,7 +15,7 @@ or-else-requires c κs = search needs
 
 returns : tie.Need-returns
 unfolding tokenFault
-returns c = rw (c .before .fault-of .ensures, c .before .before .unless .ensures) at (c .or-else .ensures)
+returns c = simp (c .before .fault-of .ensures, c .before .before .unless .ensures) at (c .or-else .ensures)
 
 pub token-fault-spec : {M : Type 1} → statement M
 token-fault-spec = tie.close (tie.spec unless-requires fault-of-requires or-else-requires returns)

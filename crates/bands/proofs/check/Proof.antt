@@ -12,7 +12,7 @@ unless-requires c κs = search needs
 
 returns : tie.Need-returns
 unfolding bandsRefusal
-returns c = rw (c .before .fit .ensures) at (c .unless .ensures)
+returns c = simp (c .before .fit .ensures) at (c .unless .ensures)
 
 pub check-spec : {M : Type 1} → statement M
 check-spec = tie.close (tie.spec fit-requires unless-requires returns)

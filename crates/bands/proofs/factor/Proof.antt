@@ -35,7 +35,7 @@ answer-requires c κs = search needs
 
 refusal : (c : tie.After-or-else) → let a = c .before .before .before .args in c .or-else .result ≡ factorRefusal (a .thresholds .now) (a .factors .now) (a .rate)
 unfolding factorRefusal
-refusal c = rw (c .before .check .ensures, c .before .before .unless .ensures) at (c .or-else .ensures)
+refusal c = simp (c .before .check .ensures, c .before .before .unless .ensures) at (c .or-else .ensures)
 
 returns : tie.Need-returns
 unfolding factorAnswer

@@ -18,7 +18,7 @@ fits c = search needs
 returns : tie.Need-returns
 returns c =
     let f : SFits w64 (c .before .before .before .args .amount .0) = fits (c .before .before) in
-    cc (toZ-ofZ f)
+    simp (c .before .within .ensures, toZ-ofZ f) at (c .unless .ensures)
 
 pub amount-refusal-spec : {M : Type 1} → statement M
 amount-refusal-spec = tie.close (tie.spec within-requires unless-requires returns)

@@ -17,7 +17,7 @@ unless-requires : tie.Need-unless-requires
 unless-requires c κs = search needs
 
 number : (c : tie.After-unless) → let a = c .before .before .before .args in c .unless .result ≡ unless (not (a .head .closed)) monthClosed (feeRefusal (a .amount .0))
-number c = cc
+number c = simp (c .before .fee-refusal .ensures) at (c .unless .ensures)
 
 returns : tie.Need-returns
 unfolding headedOf rulingOn nextOn handed

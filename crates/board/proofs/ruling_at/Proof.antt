@@ -13,7 +13,7 @@ unless-requires-2 : tie.Need-unless-requires-2
 unless-requires-2 c κs = search needs
 
 returns : tie.Need-returns
-returns c = rw (c .before .unless .ensures, c .before .before .in-month .ensures) at (c .unless2 .ensures)
+returns c = simp (c .before .unless .ensures, c .before .before .in-month .ensures) at (c .unless2 .ensures)
 
 pub ruling-at-spec : {M : Type 1} → statement M
 ruling-at-spec = tie.close (tie.spec in-month-requires unless-requires unless-requires-2 returns)

@@ -35,7 +35,7 @@ returns c =
     let prices = c .before .before in
     let targets = prices .before .before .before in
     let powers = targets .before .before in
-    rw (
+    simp (
       c .before .unless3 .ensures,
       prices .before .is-price .ensures,
       prices .is-price2 .ensures,

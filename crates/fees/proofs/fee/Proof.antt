@@ -37,7 +37,7 @@ unfolding feeRefusal
 found c =
     let s = c .before .before .before .before in
     let m = c .before .before in
-    rw (c .before .within .ensures, m .unless .ensures, m .before .is-price .ensures, toZ-ofZ (s .before .fits .price), toZ-ofZ (size-fits s)) at (c .unless2 .ensures)
+    simp (c .before .within .ensures, m .unless .ensures, m .before .is-price .ensures, toZ-ofZ (s .before .fits .price), toZ-ofZ (size-fits s)) at (c .unless2 .ensures)
 
 fits : (c : tie.Then1) → let s = c .before .before .before .before .before .before in FeeFits (s .args .price) (s .args .capacity)
 fits c = fee-fits _ _ (sym (found (c .before)) ∙ c .if1 .taken)

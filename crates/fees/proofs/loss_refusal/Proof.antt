@@ -28,7 +28,7 @@ unfolding lossRefusal
 returns c =
     let v = c .before .before .before in
     let f = v .before .before .before .fits in
-    rw (
+    simp (
       v .within2 .ensures,
       c .before .before .within3 .ensures,
       c .before .within4 .ensures,

@@ -41,7 +41,7 @@ unfolding qualityRefusal
 found c =
     let s = c .before .before .before .before .before in
     let b = c .before .before .before in
-    rw (
+    simp (
       c .before .before .within2 .ensures,
       c .before .within3 .ensures,
       b .unless .ensures,

@@ -15,7 +15,7 @@ unless-requires-2 c κs = search needs
 
 returns : tie.Need-returns
 unfolding writeRefusal
-returns c = rw (c .before .unless .ensures, c .before .before .in-form .ensures) at (c .unless2 .ensures)
+returns c = simp (c .before .unless .ensures, c .before .before .in-form .ensures) at (c .unless2 .ensures)
 
 pub write-refusal-spec : {M : Type 1} → statement M
 write-refusal-spec =

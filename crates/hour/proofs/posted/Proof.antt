@@ -30,7 +30,7 @@ returns : tie.Need-returns
 unfolding postedOf
 returns c =
     let range = c .before .before .before .before in
-    rw (
+    simp (
       c .before .before .or-else .ensures,
       c .before .before .before .unless .ensures,
       range .within .ensures,

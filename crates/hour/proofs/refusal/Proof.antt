@@ -41,7 +41,7 @@ returns c =
     let prices = size .before .before in
     let bands = prices .before .before in
     let targets = bands .before .before in
-    rw (
+    simp (
       c .before .lengths-fit .ensures,
       c .before .before .unless3 .ensures,
       size .capacity-fits .ensures,

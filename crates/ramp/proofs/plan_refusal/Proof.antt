@@ -20,7 +20,7 @@ returns : tie.Need-returns
 unfolding planRefusal
 returns c =
     let inside = c .before .before in
-    rw (c .before .unless2 .ensures, inside .all-within .ensures, inside .before .unless .ensures) at (c .or-else .ensures)
+    simp (c .before .unless2 .ensures, inside .all-within .ensures, inside .before .unless .ensures) at (c .or-else .ensures)
 
 pub plan-refusal-spec : {M : Type 1} → statement M
 plan-refusal-spec =

@@ -22,7 +22,7 @@ unfolding rampRefusal
 returns c =
     let s = c .before .before .before .before in
     let t = c .before .before in
-    rw (c .before .unless2 .ensures, t .are-targets .ensures, t .before .unless .ensures, toZ-ofZ (s .fits .last), toZ-ofZ (s .fits .target)) at (c .or-else .ensures)
+    simp (c .before .unless2 .ensures, t .are-targets .ensures, t .before .unless .ensures, toZ-ofZ (s .fits .last), toZ-ofZ (s .fits .target)) at (c .or-else .ensures)
 
 pub refusal-spec : {M : Type 1} → statement M
 refusal-spec =

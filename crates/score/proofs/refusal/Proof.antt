@@ -53,7 +53,7 @@ returns c =
     let w = u .before .before in
     let v = w .before .before in
     let s = v .before .before .before in
-    rw (
+    simp (
       c .before .or-else .ensures,
       w .before .unless .ensures,
       v .within3 .ensures,

@@ -39,7 +39,7 @@ unfolding runRefusal
 returns c =
     let e = c .before .before .before .before in
     let a = e .before .before .before in
-    rw (
+    simp (
       c .before .unless3 .ensures,
       c .before .before .within .ensures,
       toZ-ofZ (capacity-fits (a .before)),
