@@ -193,6 +193,7 @@ impl Month {
         }
     }
 
+    // A fresh month of 28 to 31 days.
     pub fn open(days: u8) -> Booked
         ensures { λ r. ⌜ r ≡ openOf days ⌝ }
     {
@@ -208,6 +209,7 @@ impl Month {
         }
     }
 
+    // Puts an amount at an hour that is empty.
     pub fn post(self, day: u8, hour: u8, amount: Dollars) -> Booked
         ensures { λ r. ⌜ r ≡ answerOf self (Call.post day hour (amount .0)) ⌝ }
     {
@@ -221,6 +223,7 @@ impl Month {
         put_together(k, head, filled, amounts)
     }
 
+    // Puts another amount at an hour that stands.
     pub fn replace(self, day: u8, hour: u8, amount: Dollars) -> Booked
         ensures { λ r. ⌜ r ≡ answerOf self (Call.replace day hour (amount .0)) ⌝ }
     {
@@ -234,6 +237,7 @@ impl Month {
         put_together(k, head, filled, amounts)
     }
 
+    // Empties an hour that stands.
     pub fn withdraw(self, day: u8, hour: u8) -> Booked
         ensures { λ r. ⌜ r ≡ answerOf self (Call.withdraw day hour) ⌝ }
     {
