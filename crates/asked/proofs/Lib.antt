@@ -7,5 +7,6 @@ pub mod Bounds
 mod Places
 mod Growing
 pub mod Written
+pub mod Separators
 pub mod Contracts
 mod Determined

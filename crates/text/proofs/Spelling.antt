@@ -45,7 +45,7 @@ third n k w = let e : suc k - 1 ≡ k = omega arith in rw e (tenth-least n k (se
 spelled-digits : (f k n : ℕ) → n < 10 ^ suc f → Fewest 10 1 n (suc k) → spelled (suc f) n ≡ digits 10 (suc k) n
 spelled-digits f zero n h w =
     let s : n < 10 = w .1 in
-    rw (lt-ltb n 10 s, mod-eq-of-lt s, lt-ltb n 10 s)
+    simp (lt-ltb n 10 s, mod-eq-of-lt s)
 spelled-digits zero (suc k) n h w =
     let g = ten-most n k (second n k w) (power k) in
     let s : n < 10 = h in

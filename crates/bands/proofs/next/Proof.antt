@@ -33,7 +33,7 @@ returns : tie.Need-returns
 unfolding next
 returns c =
     let s = c .before .before .before .before .before in
-    rw (toZ-ofZ (threshold-fits (c .before)), toZ-ofZ (factor-fits c), lt-ltb (s .args .columns .count) 16 (c .before .before .if1 .taken), next)
+    simp (toZ-ofZ (threshold-fits (c .before)), toZ-ofZ (factor-fits c), lt-ltb (s .args .columns .count) 16 (c .before .before .if1 .taken), next)
 
 returns-2 : tie.Need-returns-2
 unfolding next

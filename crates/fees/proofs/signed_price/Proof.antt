@@ -1,5 +1,5 @@
 -- `fees::signed_price` meets its contract: by its two tests; the opposite of a price fits. Assumes nothing.
-use mathlib.Core.Path.{_≡_}
+use mathlib.Core.Path.{_≡_, _∙_}
 use mathlib.Core.Bool.{false}
 use lib.IntN.{pos, negℤ, _-ℤ_}
 use lib.Signed.{ltZ}
@@ -31,7 +31,7 @@ returns-2 c =
     let s = c .before .before in
     let turned : pos 0 -ℤ s .args .charge ≡ negℤ (s .args .charge) =
     omega (signed, opposite (s .args .charge), difference (pos 0) (s .args .charge)) in
-    rw (toZ-ofZ (sub-result c), toZ-ofZ (s .fits .charge), not-above (c .before), rw (toZ-ofZ (s .fits .target)) at (c .if2 .taken), turned)
+    toZ-ofZ (sub-result c) ∙ simp (toZ-ofZ (s .fits .charge), not-above (c .before), rw (toZ-ofZ (s .fits .target)) at (c .if2 .taken), turned)
 
 returns-3 : tie.Need-returns-3
 unfolding signedPrice

@@ -10,7 +10,7 @@ use Rattle.intake.proofs.open_refusal.Statement.{statement}
 use Rattle.intake.proofs.open_refusal.Tie as tie
 
 or-is : (c : tie.After-or-else) → let a = c .before .before .before .before .before .args in c .or-else .result ≡ orElse (unless (not (a .desk .opened)) notOpen 0) (unless (isDays (a .days)) notInMonth 0)
-or-is c = cc
+or-is c = simp (c .before .unless2 .ensures, c .before .before .is-days .ensures, c .before .before .before .unless .ensures) at (c .or-else .ensures)
 
 unless-requires : tie.Need-unless-requires
 unless-requires c κs = search needs

@@ -45,7 +45,7 @@ sub-t9 c = let q = c .before .before in
     let w = summed-within (s .args .amounts .now) in
     let k = sym (test-is (t .before)) ∙ t .if1 .taken in
     let f = in-within-below {k = 100000000000} {z = s .args .desk .head .fee .0} (and-both (s .args .desk .opened) _ k .1) in
-    rw (sum-is q, fee-is (t .before .before .before)) (omega signed)
+    simp (sum-is q, fee-is (t .before .before .before)) (omega signed)
 
 returns : tie.Need-returns
 unfolding settledIn

@@ -69,7 +69,7 @@ loop-again c =
     let room = l .inv .1 in
     let moves = c .before .before .before .moving .ensures .0 in
     let next : l .i + 1 ≡ 1 + l .i = omega arith in
-    let v = back w64 (c .ramping .ok) (rw next at (c .ramping .ensures)) in (
+    let v = back w64 (c .ramping .ok) (c .ramping .ensures ∙ ap (rule (ofZ w64 (a .last)) (ofZ w64 (a .target))) next) in (
       omega arith,
       length-set (l .seconds) (l .i) _ ∙ l .inv .1,
       rw (v, l .inv .2) (filled-more (rule (ofZ w64 (a .last)) (ofZ w64 (a .target))) 1 (a .seconds .now) (l .i) (omega arith)),

@@ -1,0 +1,182 @@
+-- What stands between tokens: one separator is as good as another, several are as one, and a comment is as the line end after it. So columns parted by
+-- spaces, tabs or commas, with carriage returns and comments, ask what the plain text asks. From any state both inputs lead to the same one, and what
+-- stands before them leads both to the same state. Assumes nothing.
+use Prim.Native.Nat.{ℕ}
+use mathlib.Core.Path.{_≡_, refl, sym, ap₂, _∙_, subst}
+use mathlib.Core.Bool.{Bool, true, false, not, _&&_, _||_}
+use mathlib.Core.List.{List, [], _∷_, _++_}
+use lib.Dec.{eqb}
+use lib.IntN.{ℤ}
+use borrow.Author.Tests.{eqb-true, not-true}
+use Rattle.whole.specs.Choice.{pick}
+use Rattle.whole.proofs.Choice.{by-test, clash, and-both}
+use Rattle.asked.specs.Bytes.{lineEnd, hash, separates, parts, isLetter}
+use Rattle.asked.specs.Tokens.{isBetween, isComment, after}
+use Rattle.asked.specs.Asking.{startState, tokenFault, finished, lineAfter, begins, stepped, nextOf}
+use Rattle.asked.specs.Questions.{Question, questionOf, numbersWith, numbersStepped, questionsFrom, questions}
+use Rattle.asked.specs.Written.{allOf}
+use Rattle.asked.specs.declared.Token.{Token}
+use Rattle.asked.specs.declared.Token.the-variants.{Between, Comment, Word, Sign, Number, Below, Other}
+use Rattle.asked.specs.declared.Asked.{Asked}
+use Rattle.asked.specs.declared.State.{State}
+
+-- ---- a separator
+
+record Parts (b : ℕ) : Type 0 where
+  pub parts-it : parts b ≡ true
+  pub no-letter : isLetter b ≡ false
+  pub no-hash : eqb b hash ≡ false
+
+one-of-five : (b : ℕ) → separates b ≡ true → Parts b
+unfolding separates parts isLetter
+one-of-five b e =
+    by-test (eqb b 32) (λ (t : eqb b 32 ≡ true). at 32 t (record { parts-it = refl; no-letter = refl; no-hash = refl }))
+    (λ (t₁ : eqb b 32 ≡ false).
+    by-test (eqb b 9) (λ (t : eqb b 9 ≡ true). at 9 t (record { parts-it = refl; no-letter = refl; no-hash = refl }))
+    (λ (t₂ : eqb b 9 ≡ false).
+    by-test (eqb b 44) (λ (t : eqb b 44 ≡ true). at 44 t (record { parts-it = refl; no-letter = refl; no-hash = refl }))
+    (λ (t₃ : eqb b 44 ≡ false).
+    by-test (eqb b 13) (λ (t : eqb b 13 ≡ true). at 13 t (record { parts-it = refl; no-letter = refl; no-hash = refl }))
+    (λ (t₄ : eqb b 13 ≡ false). at 10 (rw (t₁, t₂, t₃, t₄) at e) (record { parts-it = refl; no-letter = refl; no-hash = refl })))))
+  where
+    at : (k : ℕ) → eqb b k ≡ true → Parts k → Parts b
+    at k t p = subst Parts (sym (eqb-true b k t)) p
+
+-- one that ends no line
+abbrev pub isGap : ℕ → Bool
+isGap b = separates b && not (eqb b lineEnd)
+
+-- ---- what begins no question
+
+no-third : (x y : Bool) → (x && y && false) ≡ false
+no-third true true = refl
+no-third true false = refl
+no-third false true = refl
+no-third false false = refl
+
+no-begin : (s : State) (b : ℕ) → isLetter b ≡ false → begins s b ≡ false
+unfolding begins
+no-begin s b e = rw e (no-third (s .asked .opened) (isBetween (s .token)))
+
+no-second : (x y : Bool) → (x && false && y) ≡ false
+no-second true y = refl
+no-second false y = refl
+
+-- ---- one step
+
+-- after a gap
+abbrev gapped : State → State
+gapped s = record { asked = finished (s .asked) (s .line) (s .token); token = pick (isComment (s .token)) Comment Between; line = s .line }
+
+from-gap : (s : State) (n : List ℤ) (b : ℕ) (ys : List ℕ) → isGap b ≡ true
+    → questionsFrom s n (b ∷ ys) ≡ questionsFrom (gapped s) (numbersWith (s .asked .count) (s .token) n) ys
+unfolding stepped after lineAfter numbersStepped
+from-gap s n b ys e =
+    let g = and-both (separates b) (not (eqb b lineEnd)) e in
+    let p = one-of-five b (g .0) in
+    rw (no-begin s b (p .no-letter), p .parts-it, p .no-hash, not-true (eqb b lineEnd) (g .1))
+
+-- a token that a separator changes nothing of
+abbrev quiet : Token → Bool
+quiet t = isBetween t || isComment t
+
+record Still (asked : Asked) (line : ℕ) (t : Token) (n : List ℤ) : Type 0 where
+  pub asked-is : finished asked line t ≡ asked
+  pub token-is : pick (isComment t) Comment Between ≡ t
+  pub numbers-is : numbersWith (asked .count) t n ≡ n
+
+still : (asked : Asked) (line : ℕ) (t : Token) (n : List ℤ) → quiet t ≡ true → Still asked line t n
+unfolding numbersWith tokenFault
+still asked line Between n e = record { asked-is = refl; token-is = refl; numbers-is = refl }
+still asked line Comment n e = record { asked-is = refl; token-is = refl; numbers-is = refl }
+still asked line (Word code) n e = clash e
+still asked line Sign n e = clash e
+still asked line (Number size) n e = clash e
+still asked line (Below size) n e = clash e
+still asked line Other n e = clash e
+
+idle : (s : State) (n : List ℤ) (b : ℕ) (ys : List ℕ) → quiet (s .token) ≡ true → isGap b ≡ true → questionsFrom s n (b ∷ ys) ≡ questionsFrom s n ys
+idle s n b ys q e =
+    let w = still (s .asked) (s .line) (s .token) n q in
+    from-gap s n b ys e
+    ∙ ap₂ (λ (x : State) (m : List ℤ). questionsFrom x m ys) (λ i. record { asked = w .asked-is i; token = w .token-is i; line = s .line }) (w .numbers-is)
+
+quiet-after : (t : Token) (b : ℕ) → quiet (after t b) ≡ true
+unfolding after
+quiet-after t b =
+    by-test (eqb b lineEnd) (λ (u : eqb b lineEnd ≡ true). rw u)
+    (λ (u : eqb b lineEnd ≡ false).
+    by-test (eqb b hash || isComment t)
+    (λ (v : (eqb b hash || isComment t) ≡ true). rw (u, v))
+    (λ (v : (eqb b hash || isComment t) ≡ false). rw (u, v)))
+
+-- ---- what stands before
+
+before : (xs u v : List ℕ) → ((s : State) (n : List ℤ) → questionsFrom s n u ≡ questionsFrom s n v)
+    → (s : State) (n : List ℤ) → questionsFrom s n (xs ++ u) ≡ questionsFrom s n (xs ++ v)
+before [] u v h s n = h s n
+before (x ∷ xs) u v h s n =
+    ap₂ (λ (p : List Question) (q : List Question). pick (begins s x) (questionOf (s .asked) n ∷ p) q)
+    (before xs u v h (stepped (nextOf s) x) []) (before xs u v h (stepped s x) (numbersStepped s x n))
+
+-- ---- the three laws
+
+-- a space, a tab, a comma or a carriage return, whichever
+pub alike : (xs : List ℕ) (b c : ℕ) (ys : List ℕ) → isGap b ≡ true → isGap c ≡ true → questions (xs ++ (b ∷ ys)) ≡ questions (xs ++ (c ∷ ys))
+unfolding questions
+alike xs b c ys e f = before xs (b ∷ ys) (c ∷ ys) (λ s n. from-gap s n b ys e ∙ sym (from-gap s n c ys f)) startState []
+
+-- one more after a separator or a line end
+pub once : (xs : List ℕ) (b c : ℕ) (ys : List ℕ) → separates b ≡ true → isGap c ≡ true → questions (xs ++ (b ∷ c ∷ ys)) ≡ questions (xs ++ (b ∷ ys))
+unfolding questions stepped
+once xs b c ys e f = before xs (b ∷ c ∷ ys) (b ∷ ys) step startState []
+  where
+    step : (s : State) (n : List ℤ) → questionsFrom s n (b ∷ c ∷ ys) ≡ questionsFrom s n (b ∷ ys)
+    step s n =
+        let p = one-of-five b e in
+        let q : quiet (stepped s b .token) ≡ true = rw (p .parts-it) (quiet-after (s .token) b) in
+        rw (no-begin s b (p .no-letter)) (idle (stepped s b) (numbersStepped s b n) c ys q f)
+
+-- a comment: bytes that end no line, from a state in one
+module _ (asked : Asked) (line : ℕ) (n : List ℤ) where
+  abbrev within : State
+  within = record { asked = asked; token = Comment; line = line }
+
+  commented : (c : ℕ) (ys : List ℕ) → eqb c lineEnd ≡ false → questionsFrom within n (c ∷ ys) ≡ questionsFrom within n ys
+  unfolding begins stepped after lineAfter numbersStepped numbersWith tokenFault
+  commented c ys e =
+      let b = no-second (asked .opened) (isLetter c) in
+      by-test (parts c)
+      (λ (t : parts c ≡ true).
+      by-test (eqb c hash) (λ (u : eqb c hash ≡ true). rw (b, t, e, u)) (λ (u : eqb c hash ≡ false). rw (b, t, e, u)))
+      (λ (t : parts c ≡ false). rw (b, t))
+
+  in-comment : (cs ys : List ℕ) → allOf (λ c. not (eqb c lineEnd)) cs ≡ true → questionsFrom within n (cs ++ ys) ≡ questionsFrom within n ys
+  in-comment [] ys e = refl
+  in-comment (c ∷ cs) ys e =
+      let a = and-both (not (eqb c lineEnd)) (allOf (λ c. not (eqb c lineEnd)) cs) e in
+      commented c (cs ++ ys) (not-true (eqb c lineEnd) (a .0)) ∙ in-comment cs ys (a .1)
+
+-- the `#`, and the line end after it
+opens : (s : State) (n : List ℤ) (zs : List ℕ) → let a = finished (s .asked) (s .line) (s .token) in let m = numbersWith (s .asked .count) (s .token) n in
+    questionsFrom s n (hash ∷ zs) ≡ questionsFrom (within a (s .line) m) m zs
+unfolding isLetter parts separates stepped after lineAfter numbersStepped
+opens s n zs = rw (no-begin s hash refl)
+
+closes : (s : State) (n : List ℤ) (ys : List ℕ) → let a = finished (s .asked) (s .line) (s .token) in let m = numbersWith (s .asked .count) (s .token) n in
+    questionsFrom (within a (s .line) m) m (lineEnd ∷ ys) ≡ questionsFrom s n (lineEnd ∷ ys)
+unfolding isLetter parts separates stepped after lineAfter numbersStepped numbersWith tokenFault
+closes s n ys =
+    let a = finished (s .asked) (s .line) (s .token) in
+    let m = numbersWith (s .asked .count) (s .token) n in
+    rw (no-begin (within a (s .line) m) lineEnd refl, no-begin s lineEnd refl)
+
+pub comment : (xs cs ys : List ℕ) → allOf (λ c. not (eqb c lineEnd)) cs ≡ true → questions (xs ++ (hash ∷ (cs ++ (lineEnd ∷ ys)))) ≡ questions (xs ++ (lineEnd ∷ ys))
+unfolding questions
+comment xs cs ys e = before xs (hash ∷ (cs ++ (lineEnd ∷ ys))) (lineEnd ∷ ys) step startState []
+  where
+    step : (s : State) (n : List ℤ) → questionsFrom s n (hash ∷ (cs ++ (lineEnd ∷ ys))) ≡ questionsFrom s n (lineEnd ∷ ys)
+    step s n =
+        opens s n (cs ++ (lineEnd ∷ ys))
+        ∙ in-comment (finished (s .asked) (s .line) (s .token)) (s .line) (numbersWith (s .asked .count) (s .token) n) cs (lineEnd ∷ ys) e
+        ∙ closes s n ys
