@@ -80,24 +80,24 @@ from-gap s n b ys e =
 abbrev quiet : Token → Bool
 quiet t = isBetween t || isComment t
 
-record Still (asked : Asked) (line : ℕ) (t : Token) (n : List ℤ) : Type 0 where
+record Unmoved (asked : Asked) (line : ℕ) (t : Token) (n : List ℤ) : Type 0 where
   pub asked-is : finished asked line t ≡ asked
   pub token-is : pick (isComment t) Comment Between ≡ t
   pub numbers-is : numbersWith (asked .count) t n ≡ n
 
-still : (asked : Asked) (line : ℕ) (t : Token) (n : List ℤ) → quiet t ≡ true → Still asked line t n
+unmoved : (asked : Asked) (line : ℕ) (t : Token) (n : List ℤ) → quiet t ≡ true → Unmoved asked line t n
 unfolding numbersWith tokenFault
-still asked line Between n e = record { asked-is = refl; token-is = refl; numbers-is = refl }
-still asked line Comment n e = record { asked-is = refl; token-is = refl; numbers-is = refl }
-still asked line (Word code) n e = clash e
-still asked line Sign n e = clash e
-still asked line (Number size) n e = clash e
-still asked line (Below size) n e = clash e
-still asked line Other n e = clash e
+unmoved asked line Between n e = record { asked-is = refl; token-is = refl; numbers-is = refl }
+unmoved asked line Comment n e = record { asked-is = refl; token-is = refl; numbers-is = refl }
+unmoved asked line (Word code) n e = clash e
+unmoved asked line Sign n e = clash e
+unmoved asked line (Number size) n e = clash e
+unmoved asked line (Below size) n e = clash e
+unmoved asked line Other n e = clash e
 
 idle : (s : State) (n : List ℤ) (b : ℕ) (ys : List ℕ) → quiet (s .token) ≡ true → isGap b ≡ true → questionsFrom s n (b ∷ ys) ≡ questionsFrom s n ys
 idle s n b ys q e =
-    let w = still (s .asked) (s .line) (s .token) n q in
+    let w = unmoved (s .asked) (s .line) (s .token) n q in
     from-gap s n b ys e
     ∙ ap₂ (λ (x : State) (m : List ℤ). questionsFrom x m ys) (λ i. record { asked = w .asked-is i; token = w .token-is i; line = s .line }) (w .numbers-is)
 

@@ -1,8 +1,5 @@
 -- `board::replace_in` meets its contract: the number is the definition's by its tests, and `placing` keeps or sets the places. Assumes nothing.
-use mathlib.Core.Path.{ap₂}
-use mathlib.Core.Bool.{Bool}
 use mathlib.Core.Path.{_≡_, refl, sym, ap, _∙_}
-use Prim.Native.Nat.{ℕ}
 use mathlib.Core.Bool.{true, false}
 use Rattle.whole.specs.Choice.{unless, orElse}
 use Rattle.history.specs.Rules.{Call, rulingAt}
@@ -42,14 +39,10 @@ same-length-2 c = search needs
 -- 3, then what the place says
 rest : (c : tie.After-or-else) →
     let a = c .before .before .before .before .before .before .before .args in
-    c .or-else .result ≡ orElse (amountRefusal (a .amount .0)) (unless ((getD (a .filled .now) (placeOf (a .day) (a .hour)) false)) placeEmpty 0)
+    c .or-else .result ≡ orElse (amountRefusal (a .amount .0)) (unless (getD (a .filled .now) (placeOf (a .day) (a .hour)) false) placeEmpty 0)
 rest c =
-    let r = c .before in
-    let u = r .before in
-    let f = u .before in
-    let a = f .before .before .before .before .args in
-    let taken = f .filled-at .ensures ∙ ap (λ (i : ℕ). getD (a .filled .now) i false) (f .before .place-of .ensures) in
-    c .or-else .ensures ∙ ap₂ orElse (r .amount-refusal .ensures) (u .unless .ensures ∙ ap (λ (m : Bool). unless (m) placeEmpty 0) taken)
+    let u = c .before .before in
+    simp (c .before .amount-refusal .ensures, u .unless .ensures, u .before .filled-at .ensures, u .before .before .place-of .ensures) at (c .or-else .ensures)
 
 returns : tie.Need-returns
 unfolding rulingOn nextOn

@@ -1,8 +1,7 @@
 -- `board::withdraw_in` meets its contract: the number is the definition's by its tests, and `placing` keeps or sets the places. Assumes nothing.
-use mathlib.Core.Bool.{Bool}
-use mathlib.Core.Path.{refl, sym, ap, _∙_}
 use Prim.Native.Nat.{ℕ}
-use mathlib.Core.Bool.{false}
+use mathlib.Core.Path.{refl, sym, ap, _∙_}
+use mathlib.Core.Bool.{Bool, false}
 use Rattle.whole.specs.Choice.{unless}
 use Rattle.history.specs.Rules.{Call, rulingAt}
 use Rattle.history.specs.Board.{rulingOn, nextOn}
