@@ -1,10 +1,12 @@
 -- Answers that meet a public function's contract are equal, and so is what each leaves in the two lent runs: the contracts are equations, and an
 -- equation between boards is one between their lists. Assumes nothing.
 use mathlib.Core.Path.{sym, ap, _∙_}
+use mathlib.Core.Bool.{Bool}
 use lib.IntN.{ℤ}
 use denote.Ref.{now}
 use Rattle.whole.specs.Determined.{Determined, LeftDetermined}
 use Rattle.history.specs.Board.{Board}
+use Rattle.board.specs.Board.{Fee}
 use Rattle.board.proofs.loss_fee_in.Reads as loss-fee-in-reads
 use Rattle.board.proofs.loss_fee_in.Kinds as loss-fee-in-kinds
 use Rattle.board.proofs.close_in.Reads as close-in-reads
@@ -28,28 +30,28 @@ post-in-determined : Determined 2 post-in-kinds.ps post-in-kinds.r post-in-reads
 post-in-determined κs a x y s t p q = p .0 ∙ sym (q .0)
 
 post-in-marks-determined : LeftDetermined 2 post-in-kinds.ps post-in-kinds.r (λ κs s. now (s .1 .0)) post-in-reads.Post
-post-in-marks-determined κs a x y s t p q = ap (λ (b : Board ℤ). b .marks) (p .1 ∙ sym (q .1))
+post-in-marks-determined κs a x y s t p q = ap (λ (b : Board Fee Bool ℤ). b .marks) (p .1 ∙ sym (q .1))
 
 post-in-items-determined : LeftDetermined 2 post-in-kinds.ps post-in-kinds.r (λ κs s. now (s .1 .1 .0)) post-in-reads.Post
-post-in-items-determined κs a x y s t p q = ap (λ (b : Board ℤ). b .items) (p .1 ∙ sym (q .1))
+post-in-items-determined κs a x y s t p q = ap (λ (b : Board Fee Bool ℤ). b .items) (p .1 ∙ sym (q .1))
 
 replace-in-determined : Determined 2 replace-in-kinds.ps replace-in-kinds.r replace-in-reads.Post
 replace-in-determined κs a x y s t p q = p .0 ∙ sym (q .0)
 
 replace-in-marks-determined : LeftDetermined 2 replace-in-kinds.ps replace-in-kinds.r (λ κs s. now (s .1 .0)) replace-in-reads.Post
-replace-in-marks-determined κs a x y s t p q = ap (λ (b : Board ℤ). b .marks) (p .1 ∙ sym (q .1))
+replace-in-marks-determined κs a x y s t p q = ap (λ (b : Board Fee Bool ℤ). b .marks) (p .1 ∙ sym (q .1))
 
 replace-in-items-determined : LeftDetermined 2 replace-in-kinds.ps replace-in-kinds.r (λ κs s. now (s .1 .1 .0)) replace-in-reads.Post
-replace-in-items-determined κs a x y s t p q = ap (λ (b : Board ℤ). b .items) (p .1 ∙ sym (q .1))
+replace-in-items-determined κs a x y s t p q = ap (λ (b : Board Fee Bool ℤ). b .items) (p .1 ∙ sym (q .1))
 
 withdraw-in-determined : Determined 2 withdraw-in-kinds.ps withdraw-in-kinds.r withdraw-in-reads.Post
 withdraw-in-determined κs a x y s t p q = p .0 ∙ sym (q .0)
 
 withdraw-in-marks-determined : LeftDetermined 2 withdraw-in-kinds.ps withdraw-in-kinds.r (λ κs s. now (s .1 .0)) withdraw-in-reads.Post
-withdraw-in-marks-determined κs a x y s t p q = ap (λ (b : Board ℤ). b .marks) (p .1 ∙ sym (q .1))
+withdraw-in-marks-determined κs a x y s t p q = ap (λ (b : Board Fee Bool ℤ). b .marks) (p .1 ∙ sym (q .1))
 
 withdraw-in-items-determined : LeftDetermined 2 withdraw-in-kinds.ps withdraw-in-kinds.r (λ κs s. now (s .1 .1 .0)) withdraw-in-reads.Post
-withdraw-in-items-determined κs a x y s t p q = ap (λ (b : Board ℤ). b .items) (p .1 ∙ sym (q .1))
+withdraw-in-items-determined κs a x y s t p q = ap (λ (b : Board Fee Bool ℤ). b .items) (p .1 ∙ sym (q .1))
 
 hour-in-determined : Determined 1 hour-in-kinds.ps hour-in-kinds.r hour-in-reads.Post
 hour-in-determined κs a x y s t p q = p ∙ sym q

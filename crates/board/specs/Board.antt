@@ -1,7 +1,7 @@
 -- The month ledger's rules (document 01, "The ledger"), and its board in place: a head and two runs.
 use Prim.Native.Nat.{ℕ}
-use mathlib.Core.Bool.{Bool, _&&_}
-use mathlib.Core.List.{List, []}
+use mathlib.Core.Bool.{Bool, true, false, _&&_}
+use mathlib.Core.List.{List, [], _∷_}
 use lib.Dec.{leb, eqb}
 use lib.IntN.{ℤ, pos, natAbs}
 use Rattle.whole.specs.Choice.{unless}
@@ -28,19 +28,39 @@ amountRefusal amount = unless (inRange (minus 1000000000) (pos 1000000000) amoun
 abbrev pub feeRefusal : ℤ → ℕ
 feeRefusal fee = unless (inRange (pos 0) (pos 100000000000) fee) badMoney 0
 
+-- which loss fee: there is one
+abbrev pub Fee : Type 0
+Fee = Unit {0}
+
+-- what stands at an hour: the mark that it is filled, and an amount
+abbrev pub Item : Type 0
+Item = Bool × ℤ
+
+-- an amount that is handed in
+abbrev pub amountItem : ℤ → Item
+amountItem amount = (true, amount)
+
 -- "has 744 hour places, all empty at the start"; "hours are 0 to 23"
-abbrev pub monthRules : ℕ → Rules ℤ
+abbrev pub monthRules : ℕ → Rules Fee Bool ℤ
 monthRules days =
     record {
       opens = isDays days;
       days = days;
       hoursOf = λ _. 24;
       places = 744;
-      blank = pos 0;
-      isBlank = λ amount. eqb (natAbs amount) 0;
-      check = amountRefusal;
-      checkFee = feeRefusal;
-      worth = λ amount. amount;
+      blank = (false, pos 0);
+      isBlank = λ item. eqb (natAbs (item .1)) 0;
+      filled = λ mark. mark;
+      check = λ item. amountRefusal (item .1);
+      enter = λ item. (true, item .1);
+      fits = λ item. eqb (amountRefusal (item .1)) 0;
+      worth = λ item. item .1;
+      fees = tt ∷ [];
+      sameFee = λ _ _. true;
+      checkFee = λ _. feeRefusal;
+      parts = 1;
+      checkPart = λ _. 0;
+      part = λ _ item. item .1;
     }
 
 -- an hour's place: 24 for each day before, and itself
@@ -52,15 +72,15 @@ placeOf = placeIn (monthRules 31)
 abbrev pub dollars : ℤ → Dollars
 dollars amount = record { 0 = amount }
 
-abbrev pub boardIn : Head → List Bool → List ℤ → Board ℤ
-boardIn head filled amounts = record { closed = head .closed; fee = head .fee .0; marks = filled; items = amounts }
+abbrev pub boardIn : Head → List Bool → List ℤ → Board Fee Bool ℤ
+boardIn head filled amounts = record { closed = head .closed; fee = λ _. head .fee .0; marks = filled; items = amounts }
 
 -- a call that changes no place, on the head alone
-unfoldable pub headedOf : Head → Call ℤ → Headed
+unfoldable pub headedOf : Head → Call Fee Item → Headed
 headedOf head c =
     let b = boardIn head [] [] in
     let n = handed (monthRules (head .days)) b c in
-    record { refusal = rulingOn (monthRules (head .days)) b c; head = record { days = head .days; closed = n .closed; fee = dollars (n .fee) } }
+    record { refusal = rulingOn (monthRules (head .days)) b c; head = record { days = head .days; closed = n .closed; fee = dollars (n .fee tt) } }
 
 -- what a read-out tells
 abbrev pub toldOf : ℕ × ℤ → Told

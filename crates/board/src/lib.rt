@@ -7,7 +7,7 @@ ghost use lib.ListN.{getD, set};
 ghost use Rattle.whole.specs.Choice.{kept};
 ghost use Rattle.history.specs.Rules.{Call, inside, rulingAt};
 ghost use Rattle.history.specs.Board.{told, rulingOn, handed, hourOn};
-ghost use Rattle.board.specs.Board.{amountRefusal, feeRefusal, monthRules, placeOf, dollars, boardIn, headedOf, toldOf};
+ghost use Rattle.board.specs.Board.{amountItem, amountRefusal, feeRefusal, monthRules, placeOf, dollars, boardIn, headedOf, toldOf};
 use units::Dollars;
 use units::refusals;
 
@@ -147,8 +147,8 @@ pub fn post_in(
     hour: u8,
     amount: Dollars,
 ) -> u8
-    ensures answers { λ r. ⌜ r ≡ rulingOn (monthRules (head .days)) (boardIn head (now (filled .entry)) (now (amounts .entry))) (Call.post day hour (amount .0)) ⌝ }
-    ensures leaves { λ r. ⌜ boardIn head (now (filled .exit)) (now (amounts .exit)) ≡ handed (monthRules (head .days)) (boardIn head (now (filled .entry)) (now (amounts .entry))) (Call.post day hour (amount .0)) ⌝ }
+    ensures answers { λ r. ⌜ r ≡ rulingOn (monthRules (head .days)) (boardIn head (now (filled .entry)) (now (amounts .entry))) (Call.post day hour (amountItem (amount .0))) ⌝ }
+    ensures leaves { λ r. ⌜ boardIn head (now (filled .exit)) (now (amounts .exit)) ≡ handed (monthRules (head .days)) (boardIn head (now (filled .entry)) (now (amounts .entry))) (Call.post day hour (amountItem (amount .0))) ⌝ }
 {
     let taken = filled_at(filled, place_of(day, hour));
     let place = whole::unless(!taken, refusals::PLACE_FILLED, 0);
@@ -165,8 +165,8 @@ pub fn replace_in(
     hour: u8,
     amount: Dollars,
 ) -> u8
-    ensures answers { λ r. ⌜ r ≡ rulingOn (monthRules (head .days)) (boardIn head (now (filled .entry)) (now (amounts .entry))) (Call.replace day hour (amount .0)) ⌝ }
-    ensures leaves { λ r. ⌜ boardIn head (now (filled .exit)) (now (amounts .exit)) ≡ handed (monthRules (head .days)) (boardIn head (now (filled .entry)) (now (amounts .entry))) (Call.replace day hour (amount .0)) ⌝ }
+    ensures answers { λ r. ⌜ r ≡ rulingOn (monthRules (head .days)) (boardIn head (now (filled .entry)) (now (amounts .entry))) (Call.replace day hour (amountItem (amount .0))) ⌝ }
+    ensures leaves { λ r. ⌜ boardIn head (now (filled .exit)) (now (amounts .exit)) ≡ handed (monthRules (head .days)) (boardIn head (now (filled .entry)) (now (amounts .entry))) (Call.replace day hour (amountItem (amount .0))) ⌝ }
 {
     let taken = filled_at(filled, place_of(day, hour));
     let place = whole::unless(taken, refusals::PLACE_EMPTY, 0);
@@ -186,7 +186,7 @@ pub fn withdraw_in(head: Head, filled: &mut [bool], amounts: &mut [i64], day: u8
 
 // Sets the loss fee, in place: no place is touched.
 pub fn loss_fee_in(head: Head, amount: Dollars) -> Headed
-    ensures { λ r. ⌜ r ≡ headedOf head (Call.lossFee (amount .0)) ⌝ }
+    ensures { λ r. ⌜ r ≡ headedOf head (Call.lossFee tt (amount .0)) ⌝ }
 {
     let k = whole::unless(!head.closed, refusals::MONTH_CLOSED, fee_refusal(amount));
     if k == 0 {

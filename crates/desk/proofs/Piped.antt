@@ -2,7 +2,7 @@
 -- hour comes to, on the day and hour asked, and leaves the book that this post leaves. By the frame's round trip. Assumes nothing.
 use Prim.Native.Nat.{ℕ}
 use mathlib.Core.Path.{_≡_, ap}
-use mathlib.Core.Bool.{Bool}
+use mathlib.Core.Bool.{Bool, true}
 use mathlib.Core.List.{List}
 use lib.IntN.{ℤ}
 use Rattle.history.specs.Rules.{Call}
@@ -18,9 +18,9 @@ use Rattle.question.proofs.Posting.{posting, Posts, posts}
 pub record Piped (shifting : Bool) (n : List ℤ) (book : Book) (day hour : ℕ) : Type 0 where
   pub posted : Posts shifting n day hour
   pub answered : refusalIn book (readingOf (lineOf (posting day hour (hourAsked shifting n 2))))
-      ≡ callRefusal book (Call.post day hour (settlement (hourAsked shifting n 2) .amount .0))
+      ≡ callRefusal book (Call.post day hour (true, settlement (hourAsked shifting n 2) .amount .0))
   pub kept : bookIn book (readingOf (lineOf (posting day hour (hourAsked shifting n 2))))
-      ≡ callBook book (Call.post day hour (settlement (hourAsked shifting n 2) .amount .0))
+      ≡ callBook book (Call.post day hour (true, settlement (hourAsked shifting n 2) .amount .0))
 
 pub books-the-hour : (shifting : Bool) (n : List ℤ) (book : Book) → lines.frameRefusal (hourFrame shifting n) ≡ 0
     → Piped shifting n book (byteOf (number n 0)) (byteOf (number n 1))

@@ -1,13 +1,13 @@
 -- A board in form: what it is to be, that a fresh one is, that a change at an hour keeps it so, what the change leaves at every hour, and
 -- that a fold over the places is the fold over the days' hours. Places are read after a `set`; the rest is by the laws of days. Assumes nothing.
 use Prim.Native.Nat.{ℕ, zero, suc, _+_, _-_, _<_, _≤_}
-use mathlib.Core.Path.{_≡_, refl, sym, ap, ap₂, _∙_}
-use mathlib.Core.Bool.{Bool, true, false, _&&_}
-use mathlib.Core.List.{List}
+use mathlib.Core.Path.{_≡_, refl, sym, ap, ap₂, _∙_, subst⁻¹}
+use mathlib.Core.Bool.{Bool, true, false, _&&_, _||_}
+use mathlib.Core.List.{List, [], _∷_, foldl}
 use mathlib.Core.Option.{Option, none, some}
 use native.Mathlib.Omega.{arith}
 use lib.Dec.{leb, ltb, eqb}
-use lib.IntN.{pos}
+use lib.IntN.{ℤ, pos}
 use lib.ListN.{length, getD, set, replicate, length-set, length-replicate, List·getD-eq-default}
 use lib.Seq.{getD-set-same, getD-set-other}
 use borrow.Author.Tests.{leb-true, le-leb, ltb-true, ltb-false, lt-ltb, le-ltb, eqb-true, eqb-false, eq-eqb}
@@ -15,9 +15,9 @@ use Rattle.whole.specs.Choice.{pick}
 use Rattle.whole.specs.Folds.{foldTo}
 use Rattle.whole.proofs.Choice.{both, and-both, clash, by-test}
 use Rattle.whole.proofs.Folds.{all-at, all-of, fold-same, fold-tail}
-use Rattle.history.specs.Rules.{Rules, Sound, hoursTo, inside, placeIn, placesOf}
-use Rattle.history.specs.Board.{Board, markAt, itemAt, fitsAt, wellFormed, fresh, placed}
-use Rattle.history.specs.History.{worthOf}
+use Rattle.history.specs.Rules.{Rules, Sound, hoursTo, isAmong, inside, placeIn, placesOf}
+use Rattle.history.specs.Board.{Board, markAt, itemAt, fitsAt, feesFit, wellFormed, fresh, placed}
+use Rattle.history.specs.History.{readAs}
 use Rattle.history.proofs.Days.{place-below, place-same, fold-hours}
 
 default-at : {X : Type 0} (n p : ℕ) (x : X) → getD (replicate n x) p x ≡ x
@@ -29,49 +29,78 @@ either-way : (t x y : Bool) → x ≡ true → y ≡ true → pick t x y ≡ tru
 either-way true x y e f = e
 either-way false x y e f = f
 
+-- a test of every fee: what it says of each, and back
+module _ {F : Type 0} (t : F → Bool) where
+  every-at : (same : F → F → Bool) → ((f g : F) → same f g ≡ true → f ≡ g) → (fs : List F) (ok : Bool) → foldl (λ u f. u && t f) ok fs ≡ true
+      → (ok ≡ true) × ((f : F) → isAmong same fs f ≡ true → t f ≡ true)
+  every-at same is [] ok e = (e, λ f n. clash n)
+  every-at same is (g ∷ gs) ok e =
+      let r = every-at same is gs (ok && t g) e in
+      let q = and-both ok (t g) (r .0) in (
+        q .0,
+        λ f n.
+            by-test (same g f)
+            (λ (s : same g f ≡ true). ap t (sym (is g f s)) ∙ q .1)
+            (λ (s : same g f ≡ false). r .1 f (ap (λ u. u || isAmong same gs f) (sym s) ∙ n)),
+      )
+
+  every-of : (fs : List F) (ok : Bool) → ok ≡ true → ((f : F) → t f ≡ true) → foldl (λ u f. u && t f) ok fs ≡ true
+  every-of [] ok e h = e
+  every-of (g ∷ gs) ok e h = every-of gs (ok && t g) (both e (h g)) h
+
 -- ---- what the test of a day and an hour says
 
-pub record HourOf {A : Type 0} (R : Rules A) (d x : ℕ) : Type 0 where
+pub record HourOf {F M B : Type 0} (R : Rules F M B) (d x : ℕ) : Type 0 where
   pub one : 1 ≤ d
   pub last : d ≤ R .days
   pub short : x < R .hoursOf d
 
-pub hour-of : {A : Type 0} (R : Rules A) (d x : ℕ) → inside R d x ≡ true → HourOf R d x
+pub hour-of : {F M B : Type 0} (R : Rules F M B) (d x : ℕ) → inside R d x ≡ true → HourOf R d x
 hour-of R d x i =
     let k = and-both (leb 1 d && leb d (R .days)) (ltb x (R .hoursOf d)) i in
     let j = and-both (leb 1 d) (leb d (R .days)) (k .0) in
     record { one = leb-true 1 d (j .0); last = leb-true d (R .days) (j .1); short = ltb-true x (R .hoursOf d) (k .1) }
 
-pub of-hour : {A : Type 0} (R : Rules A) (d x : ℕ) → 1 ≤ d → d ≤ R .days → x < R .hoursOf d → inside R d x ≡ true
+pub of-hour : {F M B : Type 0} (R : Rules F M B) (d x : ℕ) → 1 ≤ d → d ≤ R .days → x < R .hoursOf d → inside R d x ≡ true
 of-hour R d x o l h = both (both (le-leb 1 d o) (le-leb d (R .days) l)) (lt-ltb x (R .hoursOf d) h)
 
-pub below : {A : Type 0} (R : Rules A) (d x : ℕ) → inside R d x ≡ true → placeIn R d x < placesOf R
+pub below : {F M B : Type 0} (R : Rules F M B) (d x : ℕ) → inside R d x ≡ true → placeIn R d x < placesOf R
 below R d x i = let k = hour-of R d x i in place-below (R .hoursOf) d x (R .days) (k .one) (k .last) (k .short)
 
 -- ---- a board in form
 
-pub record Good {A : Type 0} (R : Rules A) (b : Board A) : Type 0 where
-  pub fee-fits : R .checkFee (b .fee) ≡ 0
+pub record Good {F M B : Type 0} (R : Rules F M B) (b : Board F M B) : Type 0 where
+  pub fee-fits : (f : F) → R .checkFee f (b .fee f) ≡ 0
   pub each : (p : ℕ) → p < R .places → fitsAt R b p ≡ true
   pub marks-long : length (b .marks) ≡ R .places
   pub items-long : length (b .items) ≡ R .places
 
+-- what a state's type holds: a mark and an item for each place
+pub record Held {F M B : Type 0} (R : Rules F M B) (b : Board F M B) : Type 0 where
+  pub marks : length (b .marks) ≡ R .places
+  pub items : length (b .items) ≡ R .places
+
+-- a month that is in form is one that opens
+pub well-opens : {F M B : Type 0} (R : Rules F M B) (b : Board F M B) → wellFormed R b ≡ true → R .opens ≡ true
+unfolding wellFormed
+well-opens R b w = every-at (λ f. eqb (R .checkFee f (b .fee f)) 0) (λ _ _. false) (λ f g e. clash e) (R .fees) (R .opens) (and-both (feesFit R b) _ w .0) .0
+
 -- what stands at a place, and at an hour
-abbrev pub placeOn : {A : Type 0} → Rules A → Board A → ℕ → Option A
+abbrev pub placeOn : {F M B : Type 0} → Rules F M B → Board F M B → ℕ → Option (M × B)
 placeOn R b p = pick (markAt R b p) (some (itemAt R b p)) none
 
-abbrev pub standsOn : {A : Type 0} → Rules A → Board A → ℕ → ℕ → Option A
+abbrev pub standsOn : {F M B : Type 0} → Rules F M B → Board F M B → ℕ → ℕ → Option (M × B)
 standsOn R b d x = pick (inside R d x) (placeOn R b (placeIn R d x)) none
 
--- any reading F of a place, after one place was set
-read-set : {A X : Type 0} (blank : A) (F : ℕ → Bool → A → X) (ms : List Bool) (xs : List A) (q : ℕ) (m : Bool) (a : A) (p : ℕ) → q < length ms → q < length xs
-    → F p (getD (set ms q m) p false) (getD (set xs q a) p blank) ≡ pick (eqb p q) (F q m a) (F p (getD ms p false) (getD xs p blank))
-read-set blank F ms xs q m a p lm lx = go (eqb p q) refl
+-- any reading G of a place, after one place was set
+read-set : {M B X : Type 0} (blank : M × B) (G : ℕ → M × B → X) (ms : List M) (xs : List B) (q : ℕ) (a : M × B) (p : ℕ) → q < length ms → q < length xs
+    → G p (getD (set ms q (a .0)) p (blank .0), getD (set xs q (a .1)) p (blank .1)) ≡ pick (eqb p q) (G q a) (G p (getD ms p (blank .0), getD xs p (blank .1)))
+read-set blank G ms xs q a p lm lx = go (eqb p q) refl
   where
     go : (t : Bool) → eqb p q ≡ t
-        → F p (getD (set ms q m) p false) (getD (set xs q a) p blank) ≡ pick t (F q m a) (F p (getD ms p false) (getD xs p blank))
-    go true e = rw (eqb-true p q e, getD-set-same ms q m false lm, getD-set-same xs q a blank lx)
-    go false e = rw (getD-set-other ms q p m false (eqb-false p q e), getD-set-other xs q p a blank (eqb-false p q e))
+        → G p (getD (set ms q (a .0)) p (blank .0), getD (set xs q (a .1)) p (blank .1)) ≡ pick t (G q a) (G p (getD ms p (blank .0), getD xs p (blank .1)))
+    go true e = rw (eqb-true p q e, getD-set-same ms q (a .0) (blank .0) lm, getD-set-same xs q (a .1) (blank .1) lx)
+    go false e = rw (getD-set-other ms q p (a .0) (blank .0) (eqb-false p q e), getD-set-other xs q p (a .1) (blank .1) (eqb-false p q e))
 
 fits-set : (m t ok blank : Bool) → t ≡ true → pick m ok blank ≡ true → pick m (t && ok) blank ≡ true
 fits-set true t ok blank e h = both e h
@@ -81,76 +110,93 @@ empty-if : {A : Type 0} (m t ok blank : Bool) (a : A) → t ≡ false → pick m
 empty-if false t ok blank a e h = refl
 empty-if true t ok blank a e h = clash (ap (λ u. u && ok) (sym e) ∙ h)
 
-module _ {A : Type 0} (R : Rules A) (sound : Sound R) where
-  pub well-good : (b : Board A) → wellFormed R b ≡ true → length (b .marks) ≡ R .places → length (b .items) ≡ R .places → Good R b
+module _ {F M B : Type 0} (R : Rules F M B) (sound : Sound R) where
+  pub well-good : (b : Board F M B) → wellFormed R b ≡ true → length (b .marks) ≡ R .places → length (b .items) ≡ R .places → Good R b
   unfolding wellFormed
   well-good b w lm lx =
-      let h = and-both (R .opens && eqb (R .checkFee (b .fee)) 0) _ w in
+      let h = and-both (feesFit R b) _ w in
+      let fee = every-at (λ f. eqb (R .checkFee f (b .fee f)) 0) (R .sameFee) (sound .same-is) (R .fees) (R .opens) (h .0) .1 in
       record {
-        fee-fits = eqb-true _ 0 (and-both (R .opens) _ (h .0) .1);
+        fee-fits = λ f. eqb-true _ 0 (fee f (sound .every-fee f));
         each = all-at (R .places) (fitsAt R b) (h .1);
         marks-long = lm;
         items-long = lx;
       }
 
-  pub good-well : (b : Board A) → Good R b → wellFormed R b ≡ true
+  pub well-held : (b : Board F M B) → wellFormed R b ≡ true → Held R b → Good R b
+  well-held b w held = well-good b w (held .marks) (held .items)
+
+  pub good-well : (b : Board F M B) → Good R b → wellFormed R b ≡ true
   unfolding wellFormed
-  good-well b g = both (both (sound .opens) (eq-eqb _ 0 (g .fee-fits))) (all-of (R .places) (fitsAt R b) (g .each))
+  good-well b g = both (every-of (λ f. eqb (R .checkFee f (b .fee f)) 0) (R .fees) (R .opens) (sound .opens) (λ f. eq-eqb _ 0 (g .fee-fits f))) (all-of (R .places) (fitsAt R b) (g .each))
+
+  fresh-item : (p : ℕ) → itemAt R (fresh R) p ≡ R .blank
+  unfolding fresh
+  fresh-item p i = (default-at (R .places) p (R .blank .0) i, default-at (R .places) p (R .blank .1) i)
+
+  -- what is said of the blank, by its mark
+  pub of-blank : {X : Type 0} (x y : X) → pick (R .filled (R .blank .0)) x y ≡ y
+  of-blank x y = ap (λ t. pick t x y) (sound .empty)
 
   pub fresh-good : Good R (fresh R)
   unfolding fresh
   fresh-good =
       record {
         fee-fits = sound .no-fee;
-        each = λ p h. rw (default-at (R .places) p false, default-at (R .places) p (R .blank)) (sound .is-blank);
-        marks-long = length-replicate (R .places) false;
-        items-long = length-replicate (R .places) (R .blank);
+        each = λ p h.
+            ap (λ a. pick (R .filled (a .0)) (ltb p (placesOf R) && R .fits a) (R .isBlank a)) (fresh-item p) ∙ of-blank _ _ ∙ sound .is-blank;
+        marks-long = length-replicate (R .places) (R .blank .0);
+        items-long = length-replicate (R .places) (R .blank .1);
       }
 
   pub fresh-stands : (d x : ℕ) → standsOn R (fresh R) d x ≡ none
-  unfolding fresh
-  fresh-stands d x = by-test (inside R d x) (λ (i : inside R d x ≡ true). rw (i, default-at (R .places) (placeIn R d x) false)) (λ (i : inside R d x ≡ false). rw i)
+  fresh-stands d x =
+      by-test (inside R d x)
+      (λ (i : inside R d x ≡ true). rw i (ap (λ a. pick (R .filled (a .0)) (some a) none) (fresh-item (placeIn R d x)) ∙ of-blank _ _))
+      (λ (i : inside R d x ≡ false). rw i)
 
-  module _ (b : Board A) (g : Good R b) where
+  module _ (b : Board F M B) (g : Good R b) where
     -- ---- a change at an hour
 
-    pub set-good : (d x : ℕ) (m : Bool) (a : A) → inside R d x ≡ true → pick m (eqb (R .check a) 0) (R .isBlank a) ≡ true
-        → Good R (placed R b (placeIn R d x) m a)
-    set-good d x m a i ok =
+    pub set-good : (d x : ℕ) (a : M × B) → inside R d x ≡ true → pick (R .filled (a .0)) (R .fits a) (R .isBlank a) ≡ true
+        → Good R (placed R b (placeIn R d x) a)
+    set-good d x a i ok =
         let q = placeIn R d x in
         let l = below R d x i in
         record {
           fee-fits = g .fee-fits;
           each = λ p h.
-              read-set (R .blank) (λ p m a. pick m (ltb p (placesOf R) && eqb (R .check a) 0) (R .isBlank a)) (b .marks) (b .items) q m a p
+              read-set (R .blank) (λ p a. pick (R .filled (a .0)) (ltb p (placesOf R) && R .fits a) (R .isBlank a)) (b .marks) (b .items) q a p
               (omega (arith, sound .room, g .marks-long)) (omega (arith, sound .room, g .items-long))
-              ∙ either-way (eqb p q) _ _ (fits-set m (ltb q (placesOf R)) (eqb (R .check a) 0) (R .isBlank a) (lt-ltb q (placesOf R) l) ok) (g .each p h);
-          marks-long = length-set (b .marks) q m ∙ g .marks-long;
-          items-long = length-set (b .items) q a ∙ g .items-long;
+              ∙ either-way (eqb p q) _ _ (fits-set (R .filled (a .0)) (ltb q (placesOf R)) (R .fits a) (R .isBlank a) (lt-ltb q (placesOf R) l) ok) (g .each p h);
+          marks-long = length-set (b .marks) q (a .0) ∙ g .marks-long;
+          items-long = length-set (b .items) q (a .1) ∙ g .items-long;
         }
 
-    pub set-stands : (d x : ℕ) (m : Bool) (a : A) → inside R d x ≡ true → (e y : ℕ)
-        → standsOn R (placed R b (placeIn R d x) m a) e y ≡ pick (eqb d e && eqb x y) (pick m (some a) none) (standsOn R b e y)
-    set-stands d x m a i e y = go (inside R e y) refl
+    pub set-stands : (d x : ℕ) (a : M × B) → inside R d x ≡ true → (e y : ℕ)
+        → standsOn R (placed R b (placeIn R d x) a) e y ≡ pick (eqb d e && eqb x y) (pick (R .filled (a .0)) (some a) none) (standsOn R b e y)
+    set-stands d x a i e y = go (inside R e y) refl
       where
         l : placeIn R d x < placesOf R
         l = below R d x i
 
-        out : (t : Bool) → (eqb d e && eqb x y) ≡ t → inside R e y ≡ false → none ≡ pick t (pick m (some a) none) none
+        new : Option (M × B)
+        new = pick (R .filled (a .0)) (some a) none
+
+        out : (t : Bool) → (eqb d e && eqb x y) ≡ t → inside R e y ≡ false → none ≡ pick t new none
         out true p j =
             let q = and-both (eqb d e) (eqb x y) p in
             clash (sym j ∙ ap₂ (inside R) (sym (eqb-true d e (q .0))) (sym (eqb-true x y (q .1))) ∙ i)
         out false p j = refl
 
         go : (t : Bool) → inside R e y ≡ t
-            → pick t (placeOn R (placed R b (placeIn R d x) m a) (placeIn R e y)) none
-            ≡ pick (eqb d e && eqb x y) (pick m (some a) none) (pick t (placeOn R b (placeIn R e y)) none)
+            → pick t (placeOn R (placed R b (placeIn R d x) a) (placeIn R e y)) none ≡ pick (eqb d e && eqb x y) new (pick t (placeOn R b (placeIn R e y)) none)
         go true j =
             let u = hour-of R d x i in
             let v = hour-of R e y j in
-            read-set (R .blank) (λ _ f z. pick f (some z) none) (b .marks) (b .items) (placeIn R d x) m a (placeIn R e y)
+            read-set (R .blank) (λ _ z. pick (R .filled (z .0)) (some z) none) (b .marks) (b .items) (placeIn R d x) a (placeIn R e y)
             (omega (arith, l, sound .room, g .marks-long)) (omega (arith, l, sound .room, g .items-long))
-            ∙ ap (λ t. pick t (pick m (some a) none) (placeOn R b (placeIn R e y))) (place-same (R .hoursOf) d x e y (u .one) (v .one) (u .short) (v .short))
+            ∙ ap (λ t. pick t new (placeOn R b (placeIn R e y))) (place-same (R .hoursOf) d x e y (u .one) (v .one) (u .short) (v .short))
         go false j = out (eqb d e && eqb x y) refl j
 
     -- ---- folds over the places
@@ -162,11 +208,12 @@ module _ {A : Type 0} (R : Rules A) (sound : Sound R) where
         go : (t : Bool) → ltb (placesOf R + k) (R .places) ≡ t → placeOn R b (placesOf R + k) ≡ none
         go true e =
             let p = placesOf R + k in
-            empty-if (markAt R b p) (ltb p (placesOf R)) (eqb (R .check (itemAt R b p)) 0) (R .isBlank (itemAt R b p)) (itemAt R b p)
+            empty-if (markAt R b p) (ltb p (placesOf R)) (R .fits (itemAt R b p)) (R .isBlank (itemAt R b p)) (itemAt R b p)
             (le-ltb p (placesOf R) (omega arith)) (g .each p (ltb-true p (R .places) e))
         go false e =
             let p = placesOf R + k in
-            ap (λ m. pick m (some (itemAt R b p)) none) (List·getD-eq-default (b .marks) false (omega (arith, g .marks-long, ltb-false p (R .places) e)))
+            ap (λ m. pick m (some (itemAt R b p)) none)
+            (ap (R .filled) (List·getD-eq-default (b .marks) (R .blank .0) (omega (arith, g .marks-long, ltb-false p (R .places) e))) ∙ sound .empty)
 
     at-hour : (k x : ℕ) → k < R .days → x < R .hoursOf (suc k) → placeOn R b (hoursTo (R .hoursOf) k + x) ≡ standsOn R b (suc k) x
     at-hour k x l h =
@@ -175,8 +222,8 @@ module _ {A : Type 0} (R : Rules A) (sound : Sound R) where
         ∙ ap (λ t. pick t (placeOn R b (placeIn R (suc k) x)) none) (sym (of-hour R (suc k) x (omega arith) l h))
 
     -- a fold over the places is the fold over the days' hours
-    pub over-hours : {M : Type 0} (ε : M) (op : M → M → M) (unit : (x : M) → op x ε ≡ x) (assoc : (x y z : M) → op (op x y) z ≡ op x (op y z))
-        (G : Option A → M) → G none ≡ ε
+    pub over-hours : {N : Type 0} (ε : N) (op : N → N → N) (unit : (x : N) → op x ε ≡ x) (assoc : (x y z : N) → op (op x y) z ≡ op x (op y z))
+        (G : Option (M × B) → N) → G none ≡ ε
         → foldTo ε op (R .places) (λ p. G (placeOn R b p)) ≡ foldTo ε op (R .days) (λ k. foldTo ε op (R .hoursOf (suc k)) (λ x. G (standsOn R b (suc k) x)))
     over-hours ε op unit assoc G z =
         let e : R .places ≡ placesOf R + (R .places - placesOf R) = omega (arith, sound .room) in
@@ -185,11 +232,14 @@ module _ {A : Type 0} (R : Rules A) (sound : Sound R) where
         ∙ fold-hours (R .hoursOf) ε op unit assoc (R .days) (λ p. G (placeOn R b p))
         ∙ fold-same ε op (R .days) _ _ (λ k l. fold-same ε op (R .hoursOf (suc k)) _ _ (λ x h. ap G (at-hour k x l h)))
 
-    -- a place's item is worth what stands there: an empty place holds the blank
-    pub worth-at : (p : ℕ) → p < R .places → R .worth (itemAt R b p) ≡ worthOf R (placeOn R b p)
-    worth-at p l = go (markAt R b p) (g .each p l)
+    -- what a place holds: an item that may stand where it is filled, else the blank
+    pub held-at : (P : Bool → M × B → Type 0) → ((a : M × B) → R .filled (a .0) ≡ true → R .fits a ≡ true → P true a) → P false (R .blank) → (p : ℕ) → p < R .places → P (markAt R b p) (itemAt R b p)
+    held-at P f z p l = go (markAt R b p) refl (g .each p l)
       where
-        go : (m : Bool) → pick m (ltb p (placesOf R) && eqb (R .check (itemAt R b p)) 0) (R .isBlank (itemAt R b p)) ≡ true
-            → R .worth (itemAt R b p) ≡ worthOf R (pick m (some (itemAt R b p)) none)
-        go true e = refl
-        go false e = ap (R .worth) (sound .blank-is (itemAt R b p) e) ∙ sound .no-worth
+        go : (m : Bool) → markAt R b p ≡ m → pick m (ltb p (placesOf R) && R .fits (itemAt R b p)) (R .isBlank (itemAt R b p)) ≡ true → P m (itemAt R b p)
+        go true n e = f (itemAt R b p) n (and-both (ltb p (placesOf R)) _ e .1)
+        go false n e = subst⁻¹ (P false) (sound .blank-is (itemAt R b p) n e) z
+
+    -- its item is read as what stands there
+    pub read-at : (value : M × B → ℤ) → value (R .blank) ≡ pos 0 → (p : ℕ) → p < R .places → value (itemAt R b p) ≡ readAs value (placeOn R b p)
+    read-at value z = held-at (λ m a. value a ≡ readAs value (pick m (some a) none)) (λ a _ _. refl) z

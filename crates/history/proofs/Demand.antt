@@ -4,71 +4,98 @@ use Prim.Native.Nat.{ℕ}
 use mathlib.Core.Path.{_≡_, sym, ap, ap₂, _∙_, subst, subst⁻¹}
 use mathlib.Core.Bool.{true}
 use mathlib.Core.List.{List, [], _∷_}
-use lib.IntN.{ℤ}
+use lib.IntN.{ℤ, pos}
+use Rattle.whole.specs.Choice.{pick, unless}
+use Rattle.units.specs.Refusals.{notReachable}
 use Rattle.history.specs.Rules.{Call, Rules, Sound}
-use Rattle.history.specs.Board.{Board, fresh, wellFormed, rulingOn, handed, hourOn, dayOn, totalOn, hoursOn}
+use Rattle.history.specs.Board.{Board, fresh, wellFormed, rulingOn, handed, hourOn, dayOn, partOn, totalOn, hoursOn, refusalOf, nextOf, orReachable}
 use Rattle.history.specs.History.{Entry, Ruled, rulingAfter}
 use Rattle.history.specs.Demand.{Ledger, Run, opened, called, Demand3}
 use Rattle.history.proofs.Board.{good-well}
 use Rattle.history.proofs.Steps.{Told, entry, ruled, start-told, next-told}
-use Rattle.history.proofs.Readouts.{hour-is, day-is, total-is, hours-is}
+use Rattle.history.proofs.Readouts.{hour-is, day-is, part-is, total-is, parts-are, hours-is}
 
--- what an answer to a call says on the board
-pub record Stepped {A : Type 0} (R : Rules A) (b : Board A) (c : Call A) (k : ℕ) (Q : Rules A) (n : Board A) : Type 0 where
-  pub answer : k ≡ rulingOn R b c
-  pub rules : Q ≡ R
-  pub board : n ≡ handed R b c
+-- a state's plan and board, and that the contracts say what the definitions on the board say, 22 included
+pub record Lawful {P F M B S : Type 0} (L : Ledger P F M B S) : Type 1 where
+  pub plan : S → P
+  pub board : S → Board F M B
+  -- a plan whose month opens has sound rules
+  pub sound : (p : P) → L .rules p .opens ≡ true → Sound (L .rules p)
+  pub opens : (p : P) (s : S) → L .Opens p s → (L .rules p .opens ≡ true) × (plan s ≡ p) × (board s ≡ fresh (L .rules p))
+  pub answers : (s : S) (c : Call F (M × B)) (k : ℕ) (t : S) → L .Answers s c k t
+      → (k ≡ refusalOf (L .rules (plan s)) (board s) c) × (plan t ≡ plan s) × (board t ≡ nextOf (L .rules (plan s)) (board s) c)
+  pub hour : (s : S) (d x : ℕ) (r : ℕ × ℤ) → L .Hour s d x r → let R = L .rules (plan s) in r ≡ orReachable R (pos 0) (board s) (hourOn R (board s) d x)
+  pub day : (s : S) (d : ℕ) (r : ℕ × ℤ) → L .Day s d r → let R = L .rules (plan s) in r ≡ orReachable R (pos 0) (board s) (dayOn R (board s) d)
+  pub part : (s : S) (q : ℕ) (r : ℕ × ℤ) → L .Part s q r → let R = L .rules (plan s) in r ≡ orReachable R (pos 0) (board s) (partOn R (board s) q)
+  pub total : (s : S) (r : ℕ × ℤ) → L .Total s r → let R = L .rules (plan s) in r ≡ orReachable R (pos 0) (board s) (0, totalOn R (board s))
+  pub hours : (s : S) (r : ℕ × ℕ) → L .Hours s r → let R = L .rules (plan s) in r ≡ orReachable R 0 (board s) (0, hoursOn R (board s))
 
--- a state's rules and board, and that the contracts say what the definitions on the board say
-pub record Lawful {P A S : Type 0} (L : Ledger P A S) : Type 1 where
-  pub rules : S → Rules A
-  pub board : S → Board A
-  pub opens : (p : P) (s : S) → L .Opens p s → (rules s ≡ L .rules p) × (board s ≡ fresh (L .rules p))
-  pub answers : (s : S) (c : Call A) (k : ℕ) (t : S) → wellFormed (rules s) (board s) ≡ true → L .Answers s c k t → Stepped (rules s) (board s) c k (rules t) (board t)
-  pub hour : (s : S) (d x : ℕ) (r : ℕ × ℤ) → wellFormed (rules s) (board s) ≡ true → L .Hour s d x r → r ≡ hourOn (rules s) (board s) d x
-  pub day : (s : S) (d : ℕ) (r : ℕ × ℤ) → wellFormed (rules s) (board s) ≡ true → L .Day s d r → r ≡ dayOn (rules s) (board s) d
-  pub total : (s : S) (r : ℕ × ℤ) → wellFormed (rules s) (board s) ≡ true → L .Total s r → r ≡ (0, totalOn (rules s) (board s))
-  pub hours : (s : S) (r : ℕ × ℕ) → wellFormed (rules s) (board s) ≡ true → L .Hours s r → r ≡ (0, hoursOn (rules s) (board s))
+module _ {P F M B S : Type 0} (L : Ledger P F M B S) (laws : Lawful L) where
+  abbrev pub rulesAt : S → Rules F M B
+  rulesAt s = L .rules (laws .plan s)
 
-module _ {P A S : Type 0} (L : Ledger P A S) (laws : Lawful L) (p : P) (sound : Sound (L .rules p)) where
-  abbrev R : Rules A
-  R = L .rules p
-
-  -- what a run has come to
-  pub record Come (h : List (Entry A)) (s : S) : Type 0 where
-    pub rules : laws .rules s ≡ R
-    pub told : Told R h (laws .board s)
-    pub ruled : Ruled R h
+  -- what a run by the plan p has come to
+  pub record Come (p : P) (h : List (Entry F (M × B))) (s : S) : Type 0 where
+    pub sound : Sound (L .rules p)
+    pub plan : laws .plan s ≡ p
+    pub told : Told (L .rules p) h (laws .board s)
+    pub ruled : Ruled (L .rules p) h
 
   -- its board is in form
-  pub well : (h : List (Entry A)) (s : S) → Come h s → wellFormed (laws .rules s) (laws .board s) ≡ true
-  well h s c = subst⁻¹ (λ Q. wellFormed Q (laws .board s) ≡ true) (c .rules) (good-well R sound (laws .board s) (c .told .good))
+  pub well : (p : P) (h : List (Entry F (M × B))) (s : S) → Come p h s → wellFormed (rulesAt s) (laws .board s) ≡ true
+  well p h s c = subst⁻¹ (λ q. wellFormed (L .rules q) (laws .board s) ≡ true) (c .plan) (good-well (L .rules p) (c .sound) (laws .board s) (c .told .good))
 
-  pub come : (h : List (Entry A)) (s : S) → Run L p h s → Come h s
-  come h s (opened _ o) =
-      let e = laws .opens p s o in
-      record { rules = e .0; told = subst⁻¹ (Told R []) (e .1) (start-told R sound); ruled = tt }
-  come h t (called g s c k _ run a) =
+  -- so that 22 is left aside
+  pub called-well : (s : S) (c : Call F (M × B)) (k : ℕ) (t : S) → wellFormed (rulesAt s) (laws .board s) ≡ true → L .Answers s c k t
+      → (k ≡ rulingOn (rulesAt s) (laws .board s) c) × (laws .board t ≡ handed (rulesAt s) (laws .board s) c)
+  unfolding refusalOf nextOf
+  called-well s c k t w a =
+      let R = rulesAt s in
       let b = laws .board s in
-      let before = come g s run in
-      let step = laws .answers s c k t (well g s before) a in
-      let number : k ≡ rulingOn R b c = step .answer ∙ ap (λ Q. rulingOn Q b c) (before .rules) in
-      let next : laws .board t ≡ handed R b c = step .board ∙ ap (λ Q. handed Q b c) (before .rules) in
+      let step = laws .answers s c k t a in
+      (step .0 ∙ ap (λ u. unless u notReachable (rulingOn R b c)) w, step .2 ∙ ap (λ u. pick u (handed R b c) b) w)
+
+  pub come : (p : P) (h : List (Entry F (M × B))) (s : S) → Run L p h s → Come p h s
+  come p h s (opened _ o) =
+      let e = laws .opens p s o in
+      let sound = laws .sound p (e .0) in
+      record { sound = sound; plan = e .1; told = subst⁻¹ (Told (L .rules p) []) (e .2) (start-told (L .rules p) sound); ruled = tt }
+  come p h t (called g s c k _ run a) =
+      let R = L .rules p in
+      let b = laws .board s in
+      let before = come p g s run in
+      let step = called-well s c k t (well p g s before) a in
+      let number : k ≡ rulingOn R b c = step .0 ∙ ap (λ q. rulingOn (L .rules q) b c) (before .plan) in
+      let next : laws .board t ≡ handed R b c = step .1 ∙ ap (λ q. handed (L .rules q) b c) (before .plan) in
       record {
-        rules = step .rules ∙ before .rules;
-        told = subst⁻¹ (λ n. Told R (entry c k ∷ g) n) next (subst⁻¹ (λ n. Told R (entry c n ∷ g) (handed R b c)) number (next-told R sound g b (before .told) c));
+        sound = before .sound;
+        plan = laws .answers s c k t a .1 ∙ before .plan;
+        told = subst⁻¹ (λ n. Told R (entry c k ∷ g) n) next
+            (subst⁻¹ (λ n. Told R (entry c n ∷ g) (handed R b c)) number (next-told R (before .sound) g b (before .told) c));
         ruled = (number ∙ ruled R g b (before .told) c, before .ruled);
       }
 
-  pub demand3 : (h : List (Entry A)) (s : S) → Run L p h s → Demand3 L p h s
-  demand3 h s run =
-      let c = come h s run in
-      let b = laws .board s in
-      let w = well h s c in
+  pub demand3 : (p : P) (h : List (Entry F (M × B))) (s : S) → Run L p h s → Demand3 L p h s
+  demand3 p h s run =
       record {
         accepted = c .ruled;
-        total = λ r a. laws .total s r w a ∙ ap (λ Q. (0, totalOn Q b)) (c .rules) ∙ ap (λ z. (0, z)) (total-is R sound h b (c .told));
-        hour = λ d x r a. laws .hour s d x r w a ∙ ap (λ Q. hourOn Q b d x) (c .rules) ∙ hour-is R sound h b (c .told) d x;
-        day = λ d r a. laws .day s d r w a ∙ ap (λ Q. dayOn Q b d) (c .rules) ∙ day-is R sound h b (c .told) d;
-        hours = λ r a. laws .hours s r w a ∙ ap (λ Q. (0, hoursOn Q b)) (c .rules) ∙ ap (λ n. (0, n)) (hours-is R sound h b (c .told));
+        total = λ r a. laws .total s r a ∙ plain (pos 0) (λ R. (0, totalOn R b)) ∙ ap (λ z. (0, z)) (total-is R (c .sound) h b (c .told));
+        hour = λ d x r a. laws .hour s d x r a ∙ plain (pos 0) (λ R. hourOn R b d x) ∙ hour-is R (c .sound) h b (c .told) d x;
+        day = λ d r a. laws .day s d r a ∙ plain (pos 0) (λ R. dayOn R b d) ∙ day-is R (c .sound) h b (c .told) d;
+        part = λ q r a. laws .part s q r a ∙ plain (pos 0) (λ R. partOn R b q) ∙ part-is R (c .sound) h b (c .told) q;
+        hours = λ r a. laws .hours s r a ∙ plain 0 (λ R. (0, hoursOn R b)) ∙ ap (λ n. (0, n)) (hours-is R (c .sound) h b (c .told));
+        parts = parts-are R (c .sound) h b (c .told);
       }
+    where
+      c : Come p h s
+      c = come p h s run
+
+      b : Board F M B
+      b = laws .board s
+
+      R : Rules F M B
+      R = L .rules p
+
+      -- a read-out of a board in form, by the plan that opened it
+      plain : {X : Type 0} (nothing : X) (tells : Rules F M B → ℕ × X) → orReachable (rulesAt s) nothing b (tells (rulesAt s)) ≡ tells R
+      plain nothing tells = ap (λ u. pick u (tells (rulesAt s)) (notReachable, nothing)) (well p h s c) ∙ ap (λ q. tells (L .rules q)) (c .plan)

@@ -1,8 +1,10 @@
 -- The theory of any ledger: days and places, the board, one call, the read-outs, demand 3, and refusal 22.
 pub mod Days
 pub mod Board
+pub mod Sums
 pub mod Steps
 pub mod Readouts
 pub mod Demand
 pub mod Front
 pub mod Reach
+pub mod Model

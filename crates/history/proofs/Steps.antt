@@ -7,37 +7,36 @@ use mathlib.Core.List.{List, [], _∷_}
 use mathlib.Core.Option.{Option, none, some}
 use lib.Dec.{eqb}
 use lib.IntN.{ℤ}
-use borrow.Author.Tests.{eq-eqb}
 use Rattle.whole.specs.Choice.{pick, unless, orElse, kept}
 use Rattle.whole.proofs.Choice.{by-test, passed, both-passed, kept-any, kept-by}
 use Rattle.units.specs.Refusals.{monthClosed, notInMonth, placeFilled, placeEmpty}
 use Rattle.history.specs.Rules.{Call, Rules, Sound, inside, placeIn, rulingAt, ruling}
-use Rattle.history.specs.Board.{Board, markAt, itemAt, filledAt, fresh, rulingOn, nextOn, handed}
+use Rattle.history.specs.Board.{Board, markAt, itemAt, filledAt, fresh, placed, rulingOn, nextOn, handed}
 use Rattle.history.specs.History.{Entry, leaves, standing, feeAfter, lastFee, closedAfter, isClosed, stands, rulingAfter}
-use Rattle.history.proofs.Board.{Good, standsOn, fresh-good, fresh-stands, set-good, set-stands}
+use Rattle.history.proofs.Board.{Good, standsOn, of-blank, fresh-good, fresh-stands, set-good, set-stands}
 
 -- the board tells what the history tells
-pub record Told {A : Type 0} (R : Rules A) (h : List (Entry A)) (b : Board A) : Type 0 where
+pub record Told {F M B : Type 0} (R : Rules F M B) (h : List (Entry F (M × B))) (b : Board F M B) : Type 0 where
   pub good : Good R b
-  pub stands-is : (d x : ℕ) → standsOn R b d x ≡ standing h d x
-  pub fee-is : b .fee ≡ lastFee h
+  pub stands-is : (d x : ℕ) → standsOn R b d x ≡ standing R h d x
+  pub fee-is : (f : F) → b .fee f ≡ lastFee R h f
   pub closed-is : b .closed ≡ isClosed h
 
-abbrev pub entry : {A : Type 0} → Call A → ℕ → Entry A
+abbrev pub entry : {F A : Type 0} → Call F A → ℕ → Entry F A
 entry c k = record { call = c; answer = k }
 
 -- what an accepted call does to a board
-pub record Effect {A : Type 0} (R : Rules A) (b n : Board A) (c : Call A) : Type 0 where
+pub record Effect {F M B : Type 0} (R : Rules F M B) (b n : Board F M B) (c : Call F (M × B)) : Type 0 where
   pub good : Good R n
-  pub stands-is : (d x : ℕ) → standsOn R n d x ≡ leaves c d x (standsOn R b d x)
-  pub fee-is : n .fee ≡ feeAfter c (b .fee)
+  pub stands-is : (d x : ℕ) → standsOn R n d x ≡ leaves R c d x (standsOn R b d x)
+  pub fee-is : (f : F) → n .fee f ≡ feeAfter R c f (b .fee f)
   pub closed-is : n .closed ≡ closedAfter c (b .closed)
 
 pub stands-pick : {X : Type 0} (m : Bool) (x : X) → stands (pick m (some x) none) ≡ m
 stands-pick true x = refl
 stands-pick false x = refl
 
-module _ {A : Type 0} (R : Rules A) where
+module _ {F M B : Type 0} (R : Rules F M B) where
   -- the place is asked of an hour of the month alone
   at-same : (closed : Bool) (d x : ℕ) (T : Bool → ℕ) (u v : Bool) → (inside R d x ≡ true → u ≡ v) → rulingAt R closed d x (T u) ≡ rulingAt R closed d x (T v)
   at-same closed d x T u v e =
@@ -45,20 +44,20 @@ module _ {A : Type 0} (R : Rules A) where
       (λ (i : inside R d x ≡ true). ap (λ t. rulingAt R closed d x (T t)) (e i))
       (λ (i : inside R d x ≡ false). rw i)
 
-  ruling-same : (closed : Bool) (f g : ℕ → ℕ → Bool) → ((d x : ℕ) → inside R d x ≡ true → f d x ≡ g d x) → (c : Call A) → ruling R closed f c ≡ ruling R closed g c
+  ruling-same : (closed : Bool) (f g : ℕ → ℕ → Bool) → ((d x : ℕ) → inside R d x ≡ true → f d x ≡ g d x) → (c : Call F (M × B)) → ruling R closed f c ≡ ruling R closed g c
   ruling-same closed f g e (Call.post d x a) = at-same closed d x (λ t. orElse (R .check a) (unless (not t) placeFilled 0)) (f d x) (g d x) (e d x)
   ruling-same closed f g e (Call.replace d x a) = at-same closed d x (λ t. orElse (R .check a) (unless t placeEmpty 0)) (f d x) (g d x) (e d x)
   ruling-same closed f g e (Call.withdraw d x) = at-same closed d x (λ t. unless t placeEmpty 0) (f d x) (g d x) (e d x)
-  ruling-same closed f g e (Call.lossFee a) = refl
+  ruling-same closed f g e (Call.lossFee a z) = refl
   ruling-same closed f g e Call.close = refl
 
   -- a call is answered by the board as by the history
-  pub ruled : (h : List (Entry A)) (b : Board A) → Told R h b → (c : Call A) → rulingOn R b c ≡ rulingAfter R h c
+  pub ruled : (h : List (Entry F (M × B))) (b : Board F M B) → Told R h b → (c : Call F (M × B)) → rulingOn R b c ≡ rulingAfter R h c
   unfolding rulingOn
   ruled h b t c =
-      ruling-same (b .closed) (filledAt R b) (λ d x. stands (standing h d x))
+      ruling-same (b .closed) (filledAt R b) (λ d x. stands (standing R h d x))
       (λ d x i. sym (stands-pick (filledAt R b d x) (itemAt R b (placeIn R d x))) ∙ ap stands (sym (in-month d x i) ∙ t .stands-is d x)) c
-      ∙ ap (λ s. ruling R s (λ d x. stands (standing h d x)) c) (t .closed-is)
+      ∙ ap (λ s. ruling R s (λ d x. stands (standing R h d x)) c) (t .closed-is)
     where
       in-month : (d x : ℕ) → inside R d x ≡ true → standsOn R b d x ≡ pick (filledAt R b d x) (some (itemAt R b (placeIn R d x))) none
       in-month d x i = rw i
@@ -70,51 +69,69 @@ module _ {A : Type 0} (R : Rules A) where
   module _ (sound : Sound R) where
     pub start-told : Told R [] (fresh R)
     unfolding fresh standing lastFee isClosed
-    start-told = record { good = fresh-good R sound; stands-is = fresh-stands R sound; fee-is = refl; closed-is = refl }
+    start-told = record { good = fresh-good R sound; stands-is = fresh-stands R sound; fee-is = λ _. refl; closed-is = refl }
 
-    module _ (b : Board A) (g : Good R b) where
-      pub effect : (c : Call A) → rulingOn R b c ≡ 0 → Effect R b (nextOn R b c) c
+    module _ (b : Board F M B) (g : Good R b) where
+      -- a post or a replacement: what enters fills its place
+      put-in : (d x : ℕ) (a : M × B) → inside R d x ≡ true → R .check a ≡ 0
+          → Good R (placed R b (placeIn R d x) (R .enter a))
+          × ((e y : ℕ) → standsOn R (placed R b (placeIn R d x) (R .enter a)) e y ≡ pick (eqb d e && eqb x y) (some (R .enter a)) (standsOn R b e y))
+      put-in d x a i ok =
+          let full = sound .enters a ok .0 in (
+            set-good R sound b g d x (R .enter a) i (ap (λ t. pick t (R .fits (R .enter a)) (R .isBlank (R .enter a))) full ∙ sound .enters a ok .1),
+            λ e y. set-stands R sound b g d x (R .enter a) i e y ∙ ap (λ t. pick (eqb d e && eqb x y) (pick t (some (R .enter a)) none) (standsOn R b e y)) full,
+          )
+
+      pub effect : (c : Call F (M × B)) → rulingOn R b c ≡ 0 → Effect R b (nextOn R b c) c
       unfolding rulingOn nextOn
       effect (Call.post d x a) e =
           let t = through (b .closed) d x _ e in
-          let ok = both-passed (R .check a) _ (t .1) .0 in
-          record { good = set-good R sound b g d x true a (t .0) (eq-eqb _ 0 ok); stands-is = set-stands R sound b g d x true a (t .0); fee-is = refl; closed-is = refl }
+          let n = put-in d x a (t .0) (both-passed (R .check a) _ (t .1) .0) in
+          record { good = n .0; stands-is = n .1; fee-is = λ _. refl; closed-is = refl }
       effect (Call.replace d x a) e =
           let t = through (b .closed) d x _ e in
-          let ok = both-passed (R .check a) _ (t .1) .0 in
-          record { good = set-good R sound b g d x true a (t .0) (eq-eqb _ 0 ok); stands-is = set-stands R sound b g d x true a (t .0); fee-is = refl; closed-is = refl }
+          let n = put-in d x a (t .0) (both-passed (R .check a) _ (t .1) .0) in
+          record { good = n .0; stands-is = n .1; fee-is = λ _. refl; closed-is = refl }
       effect (Call.withdraw d x) e =
           let t = through (b .closed) d x _ e in
           record {
-            good = set-good R sound b g d x false (R .blank) (t .0) (sound .is-blank);
-            stands-is = set-stands R sound b g d x false (R .blank) (t .0);
-            fee-is = refl;
+            good = set-good R sound b g d x (R .blank) (t .0) (of-blank R sound _ _ ∙ sound .is-blank);
+            stands-is = λ e y. set-stands R sound b g d x (R .blank) (t .0) e y
+                ∙ ap (λ o. pick (eqb d e && eqb x y) o (standsOn R b e y)) (of-blank R sound _ _);
+            fee-is = λ _. refl;
             closed-is = refl;
           }
-      effect (Call.lossFee f) e =
+      effect (Call.lossFee f z) e =
           record {
-            good = record { fee-fits = passed (not (b .closed)) 8 (R .checkFee f) e .1; each = g .each; marks-long = g .marks-long; items-long = g .items-long };
+            good = record { fee-fits = λ k. set-fee (R .sameFee f k) k refl; each = g .each; marks-long = g .marks-long; items-long = g .items-long };
             stands-is = λ _ _. refl;
-            fee-is = refl;
+            fee-is = λ _. refl;
             closed-is = refl;
           }
+        where
+          ok : R .checkFee f z ≡ 0
+          ok = passed (not (b .closed)) 8 (R .checkFee f z) e .1
+
+          set-fee : (t : Bool) (k : F) → R .sameFee f k ≡ t → R .checkFee k (pick t z (b .fee k)) ≡ 0
+          set-fee true k s = ap (λ n. R .checkFee n z) (sym (sound .same-is f k s)) ∙ ok
+          set-fee false k s = g .fee-fits k
       effect Call.close e =
           record {
             good = record { fee-fits = g .fee-fits; each = g .each; marks-long = g .marks-long; items-long = g .items-long };
             stands-is = λ _ _. refl;
-            fee-is = refl;
+            fee-is = λ _. refl;
             closed-is = refl;
           }
 
     -- the call and what it hands on
-    pub next-told : (h : List (Entry A)) (b : Board A) → Told R h b → (c : Call A) → Told R (entry c (rulingOn R b c) ∷ h) (handed R b c)
+    pub next-told : (h : List (Entry F (M × B))) (b : Board F M B) → Told R h b → (c : Call F (M × B)) → Told R (entry c (rulingOn R b c) ∷ h) (handed R b c)
     unfolding handed standing lastFee isClosed
     next-told h b t c =
         let k = rulingOn R b c in
         let n : k ≡ 0 → Effect R b (nextOn R b c) c = effect b (t .good) c in
         record {
           good = kept-any (Good R) k (λ z. n z .good) (t .good);
-          stands-is = λ d x. kept-by (λ m. standsOn R m d x) k (λ z. n z .stands-is d x ∙ ap (leaves c d x) (t .stands-is d x)) (t .stands-is d x);
-          fee-is = kept-by (λ (m : Board A). m .fee) k (λ z. n z .fee-is ∙ ap (feeAfter c) (t .fee-is)) (t .fee-is);
-          closed-is = kept-by (λ (m : Board A). m .closed) k (λ z. n z .closed-is ∙ ap (closedAfter c) (t .closed-is)) (t .closed-is);
+          stands-is = λ d x. kept-by (λ m. standsOn R m d x) k (λ z. n z .stands-is d x ∙ ap (leaves R c d x) (t .stands-is d x)) (t .stands-is d x);
+          fee-is = λ f. kept-by (λ (m : Board F M B). m .fee f) k (λ z. n z .fee-is f ∙ ap (feeAfter R c f) (t .fee-is f)) (t .fee-is f);
+          closed-is = kept-by (λ (m : Board F M B). m .closed) k (λ z. n z .closed-is ∙ ap (closedAfter c) (t .closed-is)) (t .closed-is);
         }

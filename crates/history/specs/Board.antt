@@ -1,8 +1,8 @@
--- A ledger as it is kept: a mark and an item for each place, the loss fee, and whether it is closed. What a call answers and hands on, what is
+-- A ledger as it is kept: two columns with an item for each place, its mark and what goes with it, the loss fees, and whether it is closed. What a call answers and hands on, what is
 -- well formed, and what the read-outs tell, by any rules R.
-use Prim.Native.Nat.{ℕ}
+use Prim.Native.Nat.{ℕ, zero, suc}
 use mathlib.Core.Bool.{Bool, true, false, _&&_}
-use mathlib.Core.List.{List}
+use mathlib.Core.List.{List, [], _∷_, foldl}
 use lib.Dec.{leb, ltb, eqb}
 use lib.IntN.{ℤ, pos, _-ℤ_}
 use lib.ListN.{getD, set, replicate}
@@ -11,84 +11,113 @@ use Rattle.whole.specs.Folds.{sumTo, countTo, allTo}
 use Rattle.units.specs.Refusals.{notReachable, notInMonth, placeEmpty}
 use Rattle.history.specs.Rules.{Call, post, replace, withdraw, lossFee, close, Rules, inside, placeIn, placesOf, ruling}
 
-pub record Board (A : Type 0) : Type 0 where
+pub record Board (F M B : Type 0) : Type 0 where
   pub closed : Bool
-  pub fee : ℤ
-  pub marks : List Bool
-  pub items : List A
+  pub fee : F → ℤ
+  pub marks : List M
+  pub items : List B
 
 -- what a read-out tells: a refusal has the amount 0
 abbrev pub told : ℕ → ℤ → ℕ × ℤ
 told k amount = (k, kept k amount (pos 0))
 
-module _ {A : Type 0} (R : Rules A) where
-  abbrev pub markAt : Board A → ℕ → Bool
-  markAt b p = getD (b .marks) p false
+module _ {F M B : Type 0} (R : Rules F M B) where
+  abbrev pub itemAt : Board F M B → ℕ → M × B
+  itemAt b p = (getD (b .marks) p (R .blank .0), getD (b .items) p (R .blank .1))
 
-  abbrev pub itemAt : Board A → ℕ → A
-  itemAt b p = getD (b .items) p (R .blank)
+  -- whether a place is filled
+  abbrev pub markAt : Board F M B → ℕ → Bool
+  markAt b p = R .filled (itemAt b p .0)
 
   -- every place empty, no fee, open
-  unfoldable pub fresh : Board A
-  fresh = record { closed = false; fee = pos 0; marks = replicate (R .places) false; items = replicate (R .places) (R .blank) }
+  unfoldable pub fresh : Board F M B
+  fresh = record { closed = false; fee = λ _. pos 0; marks = replicate (R .places) (R .blank .0); items = replicate (R .places) (R .blank .1) }
 
-  -- a filled place is one of the month's and holds what an item may be; an empty one holds the blank
-  abbrev pub fitsAt : Board A → ℕ → Bool
-  fitsAt b p = pick (markAt b p) (ltb p (placesOf R) && eqb (R .check (itemAt b p)) 0) (R .isBlank (itemAt b p))
+  -- a filled place is one of the month's and holds what may stand; an empty one holds the blank
+  abbrev pub fitsAt : Board F M B → ℕ → Bool
+  fitsAt b p = pick (markAt b p) (ltb p (placesOf R) && R .fits (itemAt b p)) (R .isBlank (itemAt b p))
+
+  -- whether a month by these rules opens, and each fee is in its range
+  abbrev pub feesFit : Board F M B → Bool
+  feesFit b = foldl (λ t f. t && eqb (R .checkFee f (b .fee f)) 0) (R .opens) (R .fees)
 
   -- what some run of calls from a fresh month hands back (proofs/Reach.antt shows that it is just this)
-  unfoldable pub wellFormed : Board A → Bool
-  wellFormed b = R .opens && eqb (R .checkFee (b .fee)) 0 && allTo (R .places) (fitsAt b)
+  unfoldable pub wellFormed : Board F M B → Bool
+  wellFormed b = feesFit b && allTo (R .places) (fitsAt b)
 
-  abbrev pub filledAt : Board A → ℕ → ℕ → Bool
+  abbrev pub filledAt : Board F M B → ℕ → ℕ → Bool
   filledAt b day hour = markAt b (placeIn R day hour)
 
   -- ---- the calls
 
   -- what a call answers, 22 left aside
-  unfoldable pub rulingOn : Board A → Call A → ℕ
+  unfoldable pub rulingOn : Board F M B → Call F (M × B) → ℕ
   rulingOn b c = ruling R (b .closed) (filledAt b) c
 
-  abbrev pub placed : Board A → ℕ → Bool → A → Board A
-  placed b p mark item = record { closed = b .closed; fee = b .fee; marks = set (b .marks) p mark; items = set (b .items) p item }
+  abbrev pub placed : Board F M B → ℕ → M × B → Board F M B
+  placed b p a = record { closed = b .closed; fee = b .fee; marks = set (b .marks) p (a .0); items = set (b .items) p (a .1) }
 
   -- what a call that is let through leaves
-  unfoldable pub nextOn : Board A → Call A → Board A
-  nextOn b (post d x a) = placed b (placeIn R d x) true a
-  nextOn b (replace d x a) = placed b (placeIn R d x) true a
-  nextOn b (withdraw d x) = placed b (placeIn R d x) false (R .blank)
-  nextOn b (lossFee f) = record { closed = b .closed; fee = f; marks = b .marks; items = b .items }
+  unfoldable pub nextOn : Board F M B → Call F (M × B) → Board F M B
+  nextOn b (post d x a) = placed b (placeIn R d x) (R .enter a)
+  nextOn b (replace d x a) = placed b (placeIn R d x) (R .enter a)
+  nextOn b (withdraw d x) = placed b (placeIn R d x) (R .blank)
+  nextOn b (lossFee f z) = record { closed = b .closed; fee = λ g. pick (R .sameFee f g) z (b .fee g); marks = b .marks; items = b .items }
   nextOn b close = record { closed = true; fee = b .fee; marks = b .marks; items = b .items }
 
   -- what a call hands on: a refusal leaves the board as it was
-  unfoldable pub handed : Board A → Call A → Board A
+  unfoldable pub handed : Board F M B → Call F (M × B) → Board F M B
   handed b c = kept (rulingOn b c) (nextOn b c) b
 
   -- ---- the read-outs, 22 left aside
 
   -- one hour: 6, 8
-  unfoldable pub hourOn : Board A → ℕ → ℕ → ℕ × ℤ
+  unfoldable pub hourOn : Board F M B → ℕ → ℕ → ℕ × ℤ
   hourOn b day hour =
       told (unless (inside R day hour) notInMonth (unless (filledAt b day hour) placeEmpty 0)) (R .worth (itemAt b (placeIn R day hour)))
 
   -- a day's sum: 6
-  unfoldable pub dayOn : Board A → ℕ → ℕ × ℤ
+  unfoldable pub dayOn : Board F M B → ℕ → ℕ × ℤ
   dayOn b day =
       told (unless (leb 1 day && leb day (R .days)) notInMonth 0) (sumTo (R .hoursOf day) (λ x. R .worth (itemAt b (placeIn R day x))))
 
-  -- the month total: the items less the loss fee
-  unfoldable pub totalOn : Board A → ℤ
-  totalOn b = sumTo (R .places) (λ p. R .worth (itemAt b p)) -ℤ b .fee
+  -- the sum of what each item is read as
+  abbrev pub sumOn : (M × B → ℤ) → Board F M B → ℤ
+  sumOn value b = sumTo (R .places) (λ p. value (itemAt b p))
+
+  -- a part's sum: the part's own number
+  unfoldable pub partOn : Board F M B → ℕ → ℕ × ℤ
+  partOn b q = told (R .checkPart q) (sumOn (R .part q) b)
+
+  -- the month total: the items less each loss fee
+  unfoldable pub totalOn : Board F M B → ℤ
+  totalOn b = foldl (λ z f. z -ℤ b .fee f) (sumOn (R .worth) b) (R .fees)
 
   -- the number of standing hours
-  unfoldable pub hoursOn : Board A → ℕ
+  unfoldable pub hoursOn : Board F M B → ℕ
   hoursOn b = countTo (R .places) (markAt b)
 
   -- ---- 22 first: a ledger that no run of calls hands back
 
-  unfoldable pub refusalOf : Board A → Call A → ℕ
+  unfoldable pub refusalOf : Board F M B → Call F (M × B) → ℕ
   refusalOf b c = unless (wellFormed b) notReachable (rulingOn b c)
 
   -- a refused ledger is handed back as it was
-  unfoldable pub nextOf : Board A → Call A → Board A
+  unfoldable pub nextOf : Board F M B → Call F (M × B) → Board F M B
   nextOf b c = pick (wellFormed b) (handed b c) b
+
+  -- a read-out's answer; a refusal has nothing beside it
+  abbrev pub orReachable : {X : Type 0} → X → Board F M B → ℕ × X → ℕ × X
+  orReachable nothing b t = pick (wellFormed b) t (notReachable, nothing)
+
+  -- ---- a board as posts: its standing hours in order of day and hour, newest first (#111)
+
+  unfoldable pub postsOfDay : Board F M B → ℕ → ℕ → List (Call F (M × B)) → List (Call F (M × B))
+  postsOfDay b day zero before = before
+  postsOfDay b day (suc x) before =
+      let earlier = postsOfDay b day x before in
+      pick (filledAt b day x) (post day x (itemAt b (placeIn R day x)) ∷ earlier) earlier
+
+  unfoldable pub postsTo : Board F M B → ℕ → List (Call F (M × B))
+  postsTo b zero = []
+  postsTo b (suc k) = postsOfDay b (suc k) (R .hoursOf (suc k)) (postsTo b k)

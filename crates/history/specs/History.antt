@@ -2,7 +2,7 @@
 use Prim.Native.Nat.{ℕ, suc}
 use mathlib.Core.Path.{_≡_}
 use mathlib.Core.Bool.{Bool, true, false, _&&_}
-use mathlib.Core.List.{List, [], _∷_}
+use mathlib.Core.List.{List, [], _∷_, foldl}
 use mathlib.Core.Option.{Option, none, some}
 use lib.Dec.{leb, eqb}
 use lib.IntN.{ℤ, pos, _-ℤ_}
@@ -13,84 +13,96 @@ use Rattle.history.specs.Rules.{Call, post, replace, withdraw, lossFee, 
 use Rattle.history.specs.Board.{told}
 
 -- a call and its answer: 0, or the number of its refusal
-pub record Entry (A : Type 0) : Type 0 where
-  pub call : Call A
+pub record Entry (F A : Type 0) : Type 0 where
+  pub call : Call F A
   pub answer : ℕ
 
-module _ {A : Type 0} where
-  -- what a call that was accepted leaves at an hour where `old` stood
-  abbrev pub leaves : Call A → ℕ → ℕ → Option A → Option A
-  leaves (post d x a) day hour old = pick (eqb d day && eqb x hour) (some a) old
-  leaves (replace d x a) day hour old = pick (eqb d day && eqb x hour) (some a) old
-  leaves (withdraw d x) day hour old = pick (eqb d day && eqb x hour) none old
-  leaves (lossFee f) day hour old = old
-  leaves close day hour old = old
+abbrev pub stands : {A : Type 0} → Option A → Bool
+stands none = false
+stands (some a) = true
 
-  -- what stands at an hour: the item last accepted for it and not withdrawn since
-  unfoldable pub standing : List (Entry A) → ℕ → ℕ → Option A
-  standing [] day hour = none
-  standing (e ∷ h) day hour = kept (e .answer) (leaves (e .call) day hour (standing h day hour)) (standing h day hour)
+-- what stands, read as an amount; nothing is 0
+abbrev pub readAs : {A : Type 0} → (A → ℤ) → Option A → ℤ
+readAs value none = pos 0
+readAs value (some a) = value a
 
-  abbrev pub feeAfter : Call A → ℤ → ℤ
-  feeAfter (post d x a) old = old
-  feeAfter (replace d x a) old = old
-  feeAfter (withdraw d x) old = old
-  feeAfter (lossFee f) old = f
-  feeAfter close old = old
-
-  -- the last accepted loss fee, or zero if there was none
-  unfoldable pub lastFee : List (Entry A) → ℤ
-  lastFee [] = pos 0
-  lastFee (e ∷ h) = kept (e .answer) (feeAfter (e .call) (lastFee h)) (lastFee h)
-
-  abbrev pub closedAfter : Call A → Bool → Bool
+module _ {F A : Type 0} where
+  abbrev pub closedAfter : Call F A → Bool → Bool
   closedAfter (post d x a) old = old
   closedAfter (replace d x a) old = old
   closedAfter (withdraw d x) old = old
-  closedAfter (lossFee f) old = old
+  closedAfter (lossFee f z) old = old
   closedAfter close old = true
 
   -- whether a close was accepted
-  unfoldable pub isClosed : List (Entry A) → Bool
+  unfoldable pub isClosed : List (Entry F A) → Bool
   isClosed [] = false
   isClosed (e ∷ h) = kept (e .answer) (closedAfter (e .call) (isClosed h)) (isClosed h)
 
-  abbrev pub stands : Option A → Bool
-  stands none = false
-  stands (some a) = true
+module _ {F M B : Type 0} (R : Rules F M B) where
+  -- what a call that was accepted leaves at an hour where `old` stood
+  abbrev pub leaves : Call F (M × B) → ℕ → ℕ → Option (M × B) → Option (M × B)
+  leaves (post d x a) day hour old = pick (eqb d day && eqb x hour) (some (R .enter a)) old
+  leaves (replace d x a) day hour old = pick (eqb d day && eqb x hour) (some (R .enter a)) old
+  leaves (withdraw d x) day hour old = pick (eqb d day && eqb x hour) none old
+  leaves (lossFee f z) day hour old = old
+  leaves close day hour old = old
 
-  module _ (R : Rules A) where
-    -- what document 01 answers to a call after a history: 0 lets it be
-    abbrev pub rulingAfter : List (Entry A) → Call A → ℕ
-    rulingAfter h c = ruling R (isClosed h) (λ d x. stands (standing h d x)) c
+  -- what stands at an hour: the item last accepted for it and not withdrawn since
+  unfoldable pub standing : List (Entry F (M × B)) → ℕ → ℕ → Option (M × B)
+  standing [] day hour = none
+  standing (e ∷ h) day hour = kept (e .answer) (leaves (e .call) day hour (standing h day hour)) (standing h day hour)
 
-    -- every call was answered so
-    abbrev pub Ruled : List (Entry A) → Type 0
-    Ruled [] = Unit {0}
-    Ruled (e ∷ h) = (e .answer ≡ rulingAfter h (e .call)) × Ruled h
+  abbrev pub feeAfter : Call F (M × B) → F → ℤ → ℤ
+  feeAfter (post d x a) fee old = old
+  feeAfter (replace d x a) fee old = old
+  feeAfter (withdraw d x) fee old = old
+  feeAfter (lossFee f z) fee old = pick (R .sameFee f fee) z old
+  feeAfter close fee old = old
 
-    -- ---- what the read-outs tell after a history
+  -- each fee's last accepted amount, or zero if there was none
+  unfoldable pub lastFee : List (Entry F (M × B)) → F → ℤ
+  lastFee [] fee = pos 0
+  lastFee (e ∷ h) fee = kept (e .answer) (feeAfter (e .call) fee (lastFee h fee)) (lastFee h fee)
 
-    abbrev pub worthOf : Option A → ℤ
-    worthOf none = pos 0
-    worthOf (some a) = R .worth a
+  -- what document 01 answers to a call after a history: 0 lets it be
+  abbrev pub rulingAfter : List (Entry F (M × B)) → Call F (M × B) → ℕ
+  rulingAfter h c = ruling R (isClosed h) (λ d x. stands (standing h d x)) c
 
-    -- one hour: 6, 8
-    abbrev pub hourIs : List (Entry A) → ℕ → ℕ → ℕ × ℤ
-    hourIs h day hour =
-        told (unless (inside R day hour) notInMonth (unless (stands (standing h day hour)) placeEmpty 0)) (worthOf (standing h day hour))
+  -- every call was answered so
+  abbrev pub Ruled : List (Entry F (M × B)) → Type 0
+  Ruled [] = Unit {0}
+  Ruled (e ∷ h) = (e .answer ≡ rulingAfter h (e .call)) × Ruled h
 
-    abbrev pub sumIs : List (Entry A) → ℕ → ℤ
-    sumIs h day = sumTo (R .hoursOf day) (λ x. worthOf (standing h day x))
+  -- ---- what the read-outs tell after a history
 
-    -- a day's sum: 6
-    abbrev pub dayIs : List (Entry A) → ℕ → ℕ × ℤ
-    dayIs h day = told (unless (leb 1 day && leb day (R .days)) notInMonth 0) (sumIs h day)
+  -- one hour: 6, 8
+  abbrev pub hourIs : List (Entry F (M × B)) → ℕ → ℕ → ℕ × ℤ
+  hourIs h day hour =
+      told (unless (inside R day hour) notInMonth (unless (stands (standing h day hour)) placeEmpty 0)) (readAs (R .worth) (standing h day hour))
 
-    -- the month total: the sum over the days and their hours, less the fee
-    abbrev pub totalIs : List (Entry A) → ℤ
-    totalIs h = sumTo (R .days) (λ k. sumIs h (suc k)) -ℤ lastFee h
+  -- the sum over a day's hours, and over the days, of what stands there, read as any amount
+  abbrev pub daySum : (M × B → ℤ) → List (Entry F (M × B)) → ℕ → ℤ
+  daySum value h day = sumTo (R .hoursOf day) (λ x. readAs value (standing h day x))
 
-    -- the number of standing hours
-    abbrev pub hoursIs : List (Entry A) → ℕ
-    hoursIs h = addTo (R .days) (λ k. countTo (R .hoursOf (suc k)) (λ x. stands (standing h (suc k) x)))
+  abbrev pub monthSum : (M × B → ℤ) → List (Entry F (M × B)) → ℤ
+  monthSum value h = sumTo (R .days) (λ k. daySum value h (suc k))
+
+  -- a day's sum: 6
+  abbrev pub dayIs : List (Entry F (M × B)) → ℕ → ℕ × ℤ
+  dayIs h day = told (unless (leb 1 day && leb day (R .days)) notInMonth 0) (daySum (R .worth) h day)
+
+  -- a part's sum: the part's own number
+  abbrev pub partIs : List (Entry F (M × B)) → ℕ → ℕ × ℤ
+  partIs h q = told (R .checkPart q) (monthSum (R .part q) h)
+
+  -- the month total before the loss fees, and less each of them
+  abbrev pub earnedIs : List (Entry F (M × B)) → ℤ
+  earnedIs h = monthSum (R .worth) h
+
+  abbrev pub totalIs : List (Entry F (M × B)) → ℤ
+  totalIs h = foldl (λ z f. z -ℤ lastFee h f) (earnedIs h) (R .fees)
+
+  -- the number of standing hours
+  abbrev pub hoursIs : List (Entry F (M × B)) → ℕ
+  hoursIs h = addTo (R .days) (λ k. countTo (R .hoursOf (suc k)) (λ x. stands (standing h (suc k) x)))

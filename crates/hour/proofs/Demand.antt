@@ -23,7 +23,7 @@ use Rattle.fees.proofs.Laws.{amount-within}
 use Rattle.history.specs.Rules.{Call}
 use Rattle.history.specs.History.{Entry}
 use Rattle.history.specs.Demand.{Run, opened, called, Demand3}
-use Rattle.board.specs.Board.{isDays}
+use Rattle.board.specs.Board.{Fee, Item, amountItem}
 use Rattle.month.specs.Month.{answerOf as ledgerOf}
 use Rattle.month.specs.declared.Month.{Month}
 use Rattle.month.specs.declared.Booked.{Booked}
@@ -52,7 +52,7 @@ booking j = booked (j .hour .refusal) (j .month)
 
 -- an accepted hour's amount, posted, is answered as by hand
 pub posted-is : (worked : Settlement) (m : Month) (d x : ℕ) → worked .refusal ≡ 0 → Within 500000000 (worked .amount .0)
-    → booking (postedOf worked m d x) ≡ ledgerOf m (Call.post d x (worked .amount .0))
+    → booking (postedOf worked m d x) ≡ ledgerOf m (Call.post d x (amountItem (worked .amount .0)))
 unfolding postedOf joined refusedOf
 posted-is worked m d x z w =
     let range : inRange (minus 1000000000) (pos 1000000000) (worked .amount .0) ≡ true = within-in {k = 1000000000} {z = worked .amount .0} (omega arith) in
@@ -60,12 +60,12 @@ posted-is worked m d x z w =
     ap (λ (k : ℕ). booking (joined k worked (answer .month) m)) number ∙ go (eqb (answer .refusal) 0) refl
   where
     answer : Booked
-    answer = ledgerOf m (Call.post d x (worked .amount .0))
+    answer = ledgerOf m (Call.post d x (amountItem (worked .amount .0)))
 
     go : (t : Bool) → eqb (answer .refusal) 0 ≡ t
         → booking (pick t (record { hour = worked; month = answer .month }) (record { hour = refusedOf (answer .refusal); month = m })) ≡ answer
     go true e = ap (λ (k : ℕ). booked k (answer .month)) (z ∙ sym (eqb-true (answer .refusal) 0 e))
-    go false e = ap (booked (answer .refusal)) (sym (refused-same m (Call.post d x (worked .amount .0)) (eqb-false (answer .refusal) 0 e)))
+    go false e = ap (booked (answer .refusal)) (sym (refused-same m (Call.post d x (amountItem (worked .amount .0))) (eqb-false (answer .refusal) 0 e)))
 
 -- a refused hour posts nothing
 pub turned-is : (worked : Settlement) (m : Month) (d x : ℕ) → (worked .refusal ≡ 0 → ⊥) → postedOf worked m d x .month ≡ m
@@ -95,26 +95,26 @@ hourGiven j = j .given .1 .1 .1 .1 .1 .1 .1 .0
 abbrev pub worked : JointCall → Settlement
 worked j = hourOf (now (j .given .0)) (now (j .given .1 .0)) 3600 (j .given .1 .1 .0) (now (j .given .1 .1 .1 .0)) (now (j .given .1 .1 .1 .1 .0))
 
-pub data JointRun (days : ℕ) : List (Entry ℤ) → Month → Type 0 where
+pub data JointRun (days : ℕ) : List (Entry Fee Item) → Month → Type 0 where
   opens : (m : Month) → monthLedger .Opens days m → JointRun days [] m
-  by-hand : (h : List (Entry ℤ)) (m : Month) (c : Call ℤ) (k : ℕ) (n : Month) → JointRun days h m → Answers m c k n → JointRun days (record { call = c; answer = k } ∷ h) n
+  by-hand : (h : List (Entry Fee Item)) (m : Month) (c : Call Fee Item) (k : ℕ) (n : Month) → JointRun days h m → Answers m c k n → JointRun days (record { call = c; answer = k } ∷ h) n
   -- the hour is accepted: a post of its amount
-  by-joint : (h : List (Entry ℤ)) (j : JointCall) → JointRun days h (monthGiven j) → worked j .refusal ≡ 0
-      → JointRun days (record { call = Call.post (dayGiven j) (hourGiven j) (worked j .amount .0); answer = j .answer .hour .refusal } ∷ h) (j .answer .month)
+  by-joint : (h : List (Entry Fee Item)) (j : JointCall) → JointRun days h (monthGiven j) → worked j .refusal ≡ 0
+      → JointRun days (record { call = Call.post (dayGiven j) (hourGiven j) (amountItem (worked j .amount .0)); answer = j .answer .hour .refusal } ∷ h) (j .answer .month)
   -- the hour is refused: no post
-  turned : (h : List (Entry ℤ)) (j : JointCall) → JointRun days h (monthGiven j) → (worked j .refusal ≡ 0 → ⊥) → JointRun days h (j .answer .month)
+  turned : (h : List (Entry Fee Item)) (j : JointCall) → JointRun days h (monthGiven j) → (worked j .refusal ≡ 0 → ⊥) → JointRun days h (j .answer .month)
 
-pub by-posts : (days : ℕ) (h : List (Entry ℤ)) (m : Month) → JointRun days h m → Run monthLedger days h m
+pub by-posts : (days : ℕ) (h : List (Entry Fee Item)) (m : Month) → JointRun days h m → Run monthLedger days h m
 unfolding jointOf
 by-posts days h m (opens _ o) = opened m o
 by-posts days h n (by-hand g m c k _ run a) = called g m c k n (by-posts days g m run) a
 by-posts days h n (by-joint g j run z) =
-    called g (monthGiven j) (Call.post (dayGiven j) (hourGiven j) (worked j .amount .0)) (j .answer .hour .refusal) (j .answer .month) (by-posts days g (monthGiven j) run)
+    called g (monthGiven j) (Call.post (dayGiven j) (hourGiven j) (amountItem (worked j .amount .0))) (j .answer .hour .refusal) (j .answer .month) (by-posts days g (monthGiven j) run)
     (ap booking (j .met) ∙ posted-is (worked j) (monthGiven j) (dayGiven j) (hourGiven j) z
     (hour-within (now (j .given .0)) (now (j .given .1 .0)) 3600 (j .given .1 .1 .0) (now (j .given .1 .1 .1 .0)) (now (j .given .1 .1 .1 .1 .0))))
 by-posts days h n (turned _ j run f) =
     subst (Run monthLedger days h) (sym (ap (λ (x : Joined). x .month) (j .met) ∙ turned-is (worked j) (monthGiven j) (dayGiven j) (hourGiven j) f)) (by-posts days h (monthGiven j) run)
 
 -- the demand, over runs that mix the joint call with calls by hand
-pub joint-demand3 : (days : ℕ) → isDays days ≡ true → (h : List (Entry ℤ)) (m : Month) → JointRun days h m → Demand3 monthLedger days h m
-joint-demand3 days d h m run = demand3 days d h m (by-posts days h m run)
+pub joint-demand3 : (days : ℕ) (h : List (Entry Fee Item)) (m : Month) → JointRun days h m → Demand3 monthLedger days h m
+joint-demand3 days h m run = demand3 days h m (by-posts days h m run)

@@ -7,6 +7,7 @@ use Rattle.whole.specs.Choice.{pick, unless, orElse}
 use Rattle.whole.specs.Whole.{minus, inRange}
 use Rattle.units.specs.Refusals.{badAmount}
 use Rattle.history.specs.Rules.{Call}
+use Rattle.board.specs.Board.{amountItem}
 use Rattle.month.specs.Month.{answerOf}
 use Rattle.month.specs.declared.Month.{Month}
 use Rattle.hour.specs.Hour.{hourOf, refusedOf}
@@ -21,7 +22,7 @@ joined k hour next month = pick (eqb k 0) (record { hour = hour; month = next })
 -- the amount of an hour, posted
 unfoldable pub postedOf : Settlement → Month → ℕ → ℕ → Joined
 postedOf worked month day hour =
-    let booked = answerOf month (Call.post day hour (worked .amount .0)) in
+    let booked = answerOf month (Call.post day hour (amountItem (worked .amount .0))) in
     joined (orElse (worked .refusal) (unless (inRange (minus 1000000000) (pos 1000000000) (worked .amount .0)) badAmount (booked .refusal)))
     worked (booked .month) month
 

@@ -12,7 +12,7 @@ use Rattle.whole.proofs.Choice.{kept-new, kept-old}
 use Rattle.units.specs.Refusals.{notOpen}
 use Rattle.history.specs.Rules.{Call, post, replace, withdraw, lossFee, close}
 use Rattle.history.specs.Board.{fresh, rulingOn, handed}
-use Rattle.board.specs.Board.{dollars, monthRules, boardIn, headedOf}
+use Rattle.board.specs.Board.{Fee, Item, amountItem, dollars, monthRules, boardIn, headedOf}
 use Rattle.board.proofs.Core.{Heads, heads-fee, heads-close}
 use Rattle.board.specs.declared.Head.{Head}
 use Rattle.frame.specs.Kinds.{openKind, postKind, replaceKind, withdrawKind, lossFeeKind}
@@ -26,11 +26,11 @@ use Rattle.intake.specs.declared.Desk.{Desk}
 -- ---- the call of a frame, by its kind
 
 module _ (e : Entry) where
-  pub call-post : e .kind ≡ postKind → callOf e ≡ post (e .day) (e .hour) (e .amount .0)
+  pub call-post : e .kind ≡ postKind → callOf e ≡ post (e .day) (e .hour) (amountItem (e .amount .0))
   unfolding callOf
   call-post k = rw (eq-eqb (e .kind) postKind k)
 
-  pub call-replace : (e .kind ≡ postKind → ⊥) → e .kind ≡ replaceKind → callOf e ≡ replace (e .day) (e .hour) (e .amount .0)
+  pub call-replace : (e .kind ≡ postKind → ⊥) → e .kind ≡ replaceKind → callOf e ≡ replace (e .day) (e .hour) (amountItem (e .amount .0))
   unfolding callOf
   call-replace p k = rw (ne-eqb (e .kind) postKind p, eq-eqb (e .kind) replaceKind k)
 
@@ -44,7 +44,7 @@ module _ (e : Entry) where
 
 -- ---- any call but an open
 
-module _ (desk : Desk) (fs : List Bool) (xs : List ℤ) (c : Call ℤ) where
+module _ (desk : Desk) (fs : List Bool) (xs : List ℤ) (c : Call Fee Item) where
   abbrev Came : ℕ → Book → Type 0
   Came k next = (k ≡ callRefusal (bookOf desk fs xs) c) × (next ≡ callBook (bookOf desk fs xs) c)
 
@@ -108,6 +108,6 @@ module _ (book : Book) (line : List ℕ) where
 pub head-heads : (head : Head) (fs : List Bool) (xs : List ℤ) (kind : ℕ) (amount : ℤ) → Heads head fs xs (headCall kind amount)
 head-heads head fs xs kind amount = go (eqb kind lossFeeKind)
   where
-    go : (t : Bool) → Heads head fs xs (pick t (lossFee amount) close)
+    go : (t : Bool) → Heads head fs xs (pick t (lossFee tt amount) close)
     go true = heads-fee head fs xs amount
     go false = heads-close head fs xs

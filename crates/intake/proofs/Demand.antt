@@ -15,7 +15,7 @@ use Rattle.history.specs.Board.{rulingOn}
 use Rattle.history.specs.History.{Entry, Ruled, totalIs}
 use Rattle.history.proofs.Steps.{Told, entry, ruled, start-told, next-told}
 use Rattle.history.proofs.Readouts.{total-is}
-use Rattle.board.specs.Board.{isDays, monthRules}
+use Rattle.board.specs.Board.{Fee, Item, isDays, monthRules}
 use Rattle.month.proofs.Sound.{month-sound}
 use Rattle.frame.specs.Kinds.{openKind}
 use Rattle.frame.specs.Frame.{readingOf}
@@ -27,30 +27,30 @@ use Rattle.intake.specs.Book.{Book, firstBook, callOf, openRefusal, open
 -- ---- the calls that lines come to, newest first, each with the number that it was answered
 
 -- a call reaches the ledger where a month is open
-abbrev callHistory : Book → List (Entry ℤ) → Call ℤ → List (Entry ℤ)
+abbrev callHistory : Book → List (Entry Fee Item) → Call Fee Item → List (Entry Fee Item)
 callHistory book h c = pick (book .opened) (entry c (rulingOn (monthRules (book .days)) (book .board) c) ∷ h) h
 
 -- an open that is accepted begins it
-abbrev openHistory : Book → List (Entry ℤ) → ℕ → List (Entry ℤ)
+abbrev openHistory : Book → List (Entry Fee Item) → ℕ → List (Entry Fee Item)
 openHistory book h days = kept (openRefusal book days) [] h
 
-abbrev frameHistory : Book → List (Entry ℤ) → Framed → List (Entry ℤ)
+abbrev frameHistory : Book → List (Entry Fee Item) → Framed → List (Entry Fee Item)
 frameHistory book h e = pick (eqb (e .kind) openKind) (openHistory book h (e .day)) (callHistory book h (callOf e))
 
-abbrev historyIn : Book → List (Entry ℤ) → Reading → List (Entry ℤ)
+abbrev historyIn : Book → List (Entry Fee Item) → Reading → List (Entry Fee Item)
 historyIn book h (Frame e) = frameHistory book h e
 historyIn book h (Refused n) = h
 
-abbrev pub historyAfter : Book → List (Entry ℤ) → List (List ℕ) → List (Entry ℤ)
+abbrev pub historyAfter : Book → List (Entry Fee Item) → List (List ℕ) → List (Entry Fee Item)
 historyAfter book h [] = h
 historyAfter book h (l ∷ ls) = historyAfter (bookAfter book l) (pick (ltb (book .count) mostLines) (historyIn book h (readingOf l)) h) ls
 
 -- ---- the ledger tells it, and each call was answered as document 01 rules after those before it
 
-abbrev pub Tells : List (Entry ℤ) → Book → Type 0
+abbrev pub Tells : List (Entry Fee Item) → Book → Type 0
 Tells h book = book .opened ≡ true → (isDays (book .days) ≡ true) × Told (monthRules (book .days)) h (book .board) × Ruled (monthRules (book .days)) h
 
-call-tells : (book : Book) (h : List (Entry ℤ)) (c : Call ℤ) → Tells h book → Tells (callHistory book h c) (callBook book c)
+call-tells : (book : Book) (h : List (Entry Fee Item)) (c : Call Fee Item) → Tells h book → Tells (callHistory book h c) (callBook book c)
 unfolding callBook
 call-tells book h c k =
     by-test (book .opened)
@@ -59,7 +59,7 @@ call-tells book h c k =
     rw o (λ _. (g .0, next-told (monthRules (book .days)) (month-sound (book .days) (g .0)) h (book .board) (g .1) c, (ruled (monthRules (book .days)) h (book .board) (g .1) c, g .2))))
     (λ (o : book .opened ≡ false). rw o (λ e. clash e))
 
-open-tells : (book : Book) (h : List (Entry ℤ)) (days : ℕ) → Tells h book → Tells (openHistory book h days) (openBook book days)
+open-tells : (book : Book) (h : List (Entry Fee Item)) (days : ℕ) → Tells h book → Tells (openHistory book h days) (openBook book days)
 unfolding openBook openRefusal
 open-tells book h days k =
     by-test (eqb (openRefusal book days) 0)
@@ -69,25 +69,25 @@ open-tells book h days k =
     rw t (λ _. (d, start-told (monthRules days) (month-sound days d), tt)))
     (λ (t : eqb (openRefusal book days) 0 ≡ false). rw t k)
 
-frame-tells : (book : Book) (h : List (Entry ℤ)) (e : Framed) → Tells h book → Tells (frameHistory book h e) (frameBook book e)
+frame-tells : (book : Book) (h : List (Entry Fee Item)) (e : Framed) → Tells h book → Tells (frameHistory book h e) (frameBook book e)
 unfolding frameBook
 frame-tells book h e k =
     by-test (eqb (e .kind) openKind)
     (λ (t : eqb (e .kind) openKind ≡ true). rw t (open-tells book h (e .day) k))
     (λ (t : eqb (e .kind) openKind ≡ false). rw t (call-tells book h (callOf e) k))
 
-in-tells : (book : Book) (h : List (Entry ℤ)) (r : Reading) → Tells h book → Tells (historyIn book h r) (bookIn book r)
+in-tells : (book : Book) (h : List (Entry Fee Item)) (r : Reading) → Tells h book → Tells (historyIn book h r) (bookIn book r)
 in-tells book h (Frame e) k = frame-tells book h e k
 in-tells book h (Refused n) k = k
 
-after-tells : (book : Book) (h : List (Entry ℤ)) (l : List ℕ) → Tells h book → Tells (pick (ltb (book .count) mostLines) (historyIn book h (readingOf l)) h) (bookAfter book l)
+after-tells : (book : Book) (h : List (Entry Fee Item)) (l : List ℕ) → Tells h book → Tells (pick (ltb (book .count) mostLines) (historyIn book h (readingOf l)) h) (bookAfter book l)
 unfolding bookAfter
 after-tells book h l k =
     by-test (ltb (book .count) mostLines)
     (λ (t : ltb (book .count) mostLines ≡ true). rw t (in-tells book h (readingOf l) k))
     (λ (t : ltb (book .count) mostLines ≡ false). rw t k)
 
-all-tells : (book : Book) (h : List (Entry ℤ)) (ls : List (List ℕ)) → Tells h book → Tells (historyAfter book h ls) (bookAfterAll book ls)
+all-tells : (book : Book) (h : List (Entry Fee Item)) (ls : List (List ℕ)) → Tells h book → Tells (historyAfter book h ls) (bookAfterAll book ls)
 all-tells book h [] k = k
 all-tells book h (l ∷ ls) k = all-tells (bookAfter book l) (pick (ltb (book .count) mostLines) (historyIn book h (readingOf l)) h) ls (after-tells book h l k)
 

@@ -10,7 +10,7 @@ use Rattle.whole.proofs.Choice.{by-test, passed}
 use Rattle.history.specs.Rules.{Call}
 use Rattle.history.specs.Board.{fresh, wellFormed, refusalOf, nextOf, totalOn}
 use Rattle.history.proofs.Board.{Good, good-well}
-use Rattle.board.specs.Board.{isDays, monthRules}
+use Rattle.board.specs.Board.{Fee, Item, isDays, monthRules}
 use Rattle.month.specs.Month.{boardOf, monthOf, answerOf}
 use Rattle.month.proofs.Sound.{month-sound}
 use Rattle.month.proofs.Sums.{all-summed}
@@ -35,13 +35,13 @@ settled-total book k =
     by-test (book .opened)
     (λ (o : book .opened ≡ true).
     let g = k o in
-    let f = passed (inRange (pos 0) (pos 100000000000) (book .board .fee)) 2 0 (g .1 .fee-fits) .0 in
-    rw (o, f) (ap (λ (z : ℤ). z -ℤ book .board .fee) (all-summed (monthOf (book .days) (book .board)) (g .1))))
+    let f = passed (inRange (pos 0) (pos 100000000000) (book .board .fee tt)) 2 0 (g .1 .fee-fits tt) .0 in
+    rw (o, f) (ap (λ (z : ℤ). z -ℤ book .board .fee tt) (all-summed (monthOf (book .days) (book .board)) (g .1))))
     (λ (o : book .opened ≡ false). rw o)
 
 -- ---- what the program answers to a call and keeps of it is what the ledger's call by value answers and hands back, 22 first
 
-module _ (book : Book) (c : Call ℤ) (k : Kept book) (o : book .opened ≡ true) where
+module _ (book : Book) (c : Call Fee Item) (k : Kept book) (o : book .opened ≡ true) where
   well : wellFormed (monthRules (book .days)) (book .board) ≡ true
   well = let g = k o in good-well (monthRules (book .days)) (month-sound (book .days) (g .0)) (book .board) (g .1)
 

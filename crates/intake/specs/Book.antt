@@ -8,7 +8,7 @@ use Rattle.whole.specs.Choice.{pick, unless, kept}
 use Rattle.units.specs.Refusals.{notOpen, notInMonth}
 use Rattle.history.specs.Rules.{Call, post, replace, withdraw, lossFee, close}
 use Rattle.history.specs.Board.{Board, fresh, rulingOn, handed, totalOn}
-use Rattle.board.specs.Board.{isDays, monthRules}
+use Rattle.board.specs.Board.{Fee, Item, amountItem, isDays, monthRules}
 use Rattle.frame.specs.Kinds.{openKind, postKind, replaceKind, withdrawKind, lossFeeKind}
 use Rattle.frame.specs.Frame.{readingOf}
 use Rattle.frame.specs.declared.Entry.{Entry}
@@ -22,7 +22,7 @@ pub record Book : Type 0 where
   pub count : ℕ
   pub opened : Bool
   pub days : ℕ
-  pub board : Board ℤ
+  pub board : Board Fee Bool ℤ
 
 -- no line answered, no month opened
 abbrev pub firstBook : Book
@@ -35,12 +35,12 @@ mostLines = 1000000
 -- ---- one frame
 
 -- the ledger's call of a frame that is no open
-unfoldable pub callOf : Entry → Call ℤ
+unfoldable pub callOf : Entry → Call Fee Item
 callOf e =
-    pick (eqb (e .kind) postKind) (post (e .day) (e .hour) (e .amount .0))
-    (pick (eqb (e .kind) replaceKind) (replace (e .day) (e .hour) (e .amount .0))
+    pick (eqb (e .kind) postKind) (post (e .day) (e .hour) (amountItem (e .amount .0)))
+    (pick (eqb (e .kind) replaceKind) (replace (e .day) (e .hour) (amountItem (e .amount .0)))
     (pick (eqb (e .kind) withdrawKind) (withdraw (e .day) (e .hour))
-    (pick (eqb (e .kind) lossFeeKind) (lossFee (e .amount .0)) close)))
+    (pick (eqb (e .kind) lossFeeKind) (lossFee tt (e .amount .0)) close)))
 
 -- an open: 14 where it is the second, then 6
 unfoldable pub openRefusal : Book → ℕ → ℕ
@@ -51,10 +51,10 @@ openBook book days =
     kept (openRefusal book days) (record { count = book .count; opened = true; days = days; board = fresh (monthRules days) }) book
 
 -- any other frame: 14 before a month is open, then the ledger's
-unfoldable pub callRefusal : Book → Call ℤ → ℕ
+unfoldable pub callRefusal : Book → Call Fee Item → ℕ
 callRefusal book c = unless (book .opened) notOpen (rulingOn (monthRules (book .days)) (book .board) c)
 
-unfoldable pub callBook : Book → Call ℤ → Book
+unfoldable pub callBook : Book → Call Fee Item → Book
 callBook book c =
     pick (book .opened)
     (record { count = book .count; opened = book .opened; days = book .days; board = handed (monthRules (book .days)) (book .board) c }) book

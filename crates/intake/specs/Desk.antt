@@ -10,7 +10,7 @@ use Rattle.whole.specs.Choice.{pick}
 use Rattle.whole.specs.Whole.{summed, inRange}
 use Rattle.units.specs.Refusals.{wrongLength}
 use Rattle.history.specs.Rules.{Call, lossFee, close}
-use Rattle.board.specs.Board.{dollars, boardIn, headedOf}
+use Rattle.board.specs.Board.{Fee, Item, dollars, boardIn, headedOf}
 use Rattle.frame.specs.Kinds.{lossFeeKind}
 use Rattle.frame.specs.declared.Reading.{Reading}
 use Rattle.frame.specs.declared.Reading.the-variants.{Frame, Refused}
@@ -63,7 +63,7 @@ deskOf book =
     record {
       count = book .count;
       opened = book .opened;
-      head = record { days = book .days; closed = book .board .closed; fee = dollars (book .board .fee) };
+      head = record { days = book .days; closed = book .board .closed; fee = dollars (book .board .fee tt) };
     }
 
 unfoldable pub startState : State
@@ -77,10 +77,10 @@ refusalNumber (Frame e) = 0
 refusalNumber (Refused n) = n
 
 -- a call that touches no place
-abbrev pub headCall : ℕ → ℤ → Call ℤ
-headCall kind amount = pick (eqb kind lossFeeKind) (lossFee amount) close
+abbrev pub headCall : ℕ → ℤ → Call Fee Item
+headCall kind amount = pick (eqb kind lossFeeKind) (lossFee tt amount) close
 
-abbrev pub headTaken : Desk → Call ℤ → Taken
+abbrev pub headTaken : Desk → Call Fee Item → Taken
 headTaken desk c =
     record {
       refusal = headedOf (desk .head) c .refusal;

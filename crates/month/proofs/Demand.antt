@@ -2,7 +2,7 @@
 -- contracts loses no hour, doubles none and invents none. From the theory of any ledger (crates/history): the month is an instance. Assumes nothing.
 use Prim.Native.Nat.{ℕ}
 use mathlib.Core.Path.{_≡_, ap, _∙_}
-use mathlib.Core.Bool.{true, false}
+use mathlib.Core.Bool.{Bool, true, false}
 use mathlib.Core.List.{List}
 use native.Mathlib.Omega.{arith}
 use lib.IntN.{ℤ, pos}
@@ -10,14 +10,14 @@ use Rattle.units.specs.declared.Dollars.{Dollars}
 use Rattle.history.specs.Rules.{Call}
 use Rattle.whole.specs.Choice.{pick, unless}
 use Rattle.whole.proofs.Choice.{by-test, kept-old}
-use Rattle.units.specs.Refusals.{notReachable, notInMonth}
-use Rattle.history.specs.Board.{wellFormed, fresh, rulingOn, handed, refusalOf, nextOf, hoursOn}
+use Rattle.units.specs.Refusals.{notInMonth}
+use Rattle.history.specs.Board.{wellFormed, fresh, rulingOn, nextOn, handed, refusalOf, nextOf}
 use Rattle.history.specs.History.{Entry}
 use Rattle.history.specs.Demand.{Ledger, Run, Demand3}
-use Rattle.history.proofs.Demand.{Stepped, Lawful}
+use Rattle.history.proofs.Demand.{Lawful}
 use Rattle.history.proofs.Demand.{demand3 as any-demand3}
-use Rattle.board.specs.Board.{isDays, monthRules, dollars}
-use Rattle.month.specs.Month.{rulesOf, boardOf, monthOf, freshMonth, openOf, answerOf, orReachable, hourOf, dayOf, totalOf, standingOf}
+use Rattle.board.specs.Board.{Fee, Item, isDays, monthRules, dollars, toldOf}
+use Rattle.month.specs.Month.{rulesOf, boardOf, monthOf, freshMonth, openOf, answerOf, hourOf, dayOf, totalOf, standingOf}
 use Rattle.month.specs.declared.Month.{Month}
 use Rattle.month.specs.declared.Booked.{Booked}
 use Rattle.board.specs.declared.Told.{Told}
@@ -48,18 +48,18 @@ at m d x = (m, (d, (x, tt)))
 abbrev pub setting : Month → ℤ → Month × (Dollars × Unit {0})
 setting m f = (m, (dollars f, tt))
 
-abbrev pub Answers : Month → Call ℤ → ℕ → Month → Type 0
-Answers m (Call.post d x a) k n = post-reads.Post tt (posting m d x a) (booked k n) (posting m d x a)
-Answers m (Call.replace d x a) k n = replace-reads.Post tt (posting m d x a) (booked k n) (posting m d x a)
+abbrev pub Answers : Month → Call Fee Item → ℕ → Month → Type 0
+Answers m (Call.post d x a) k n = post-reads.Post tt (posting m d x (a .1)) (booked k n) (posting m d x (a .1))
+Answers m (Call.replace d x a) k n = replace-reads.Post tt (posting m d x (a .1)) (booked k n) (posting m d x (a .1))
 Answers m (Call.withdraw d x) k n = withdraw-reads.Post tt (at m d x) (booked k n) (at m d x)
-Answers m (Call.lossFee f) k n = loss-fee-reads.Post tt (setting m f) (booked k n) (setting m f)
+Answers m (Call.lossFee _ f) k n = loss-fee-reads.Post tt (setting m f) (booked k n) (setting m f)
 Answers m Call.close k n = close-reads.Post tt (m, tt) (booked k n) (m, tt)
 
 abbrev pub told : ℕ × ℤ → Told
 told r = record { refusal = r .0; amount = dollars (r .1) }
 
 -- the month ledger: a plan is a number of days
-abbrev pub monthLedger : Ledger ℕ ℤ Month
+abbrev pub monthLedger : Ledger ℕ Fee Bool ℤ Month
 monthLedger =
     record {
       rules = monthRules;
@@ -67,63 +67,59 @@ monthLedger =
       Answers = Answers;
       Hour = λ m d x r. hour-reads.Post tt (at m d x) (told r) (at m d x);
       Day = λ m d r. day-reads.Post tt (m, (d, tt)) (told r) (m, (d, tt));
+      Part = λ _ _ _. ⊥;
       Total = λ m r. total-reads.Post tt (m, tt) (told r) (m, tt);
       Hours = λ m r. standing-reads.Post tt (m, tt) (record { refusal = r .0; hours = r .1 }) (m, tt);
     }
 
 -- ---- the laws: the contracts say what the definitions on the board say
 
-step : (m : Month) (c : Call ℤ) (k : ℕ) (n : Month) → wellFormed (rulesOf m) (boardOf m) ≡ true → booked k n ≡ answerOf m c → Stepped (rulesOf m) (boardOf m) c k (rulesOf n) (boardOf n)
-unfolding answerOf refusalOf nextOf
-step m c k n w e =
-    record {
-      answer = ap (λ (b : Booked). b .refusal) e ∙ ap (λ t. unless t notReachable (rulingOn (rulesOf m) (boardOf m) c)) w;
-      rules = ap (λ (b : Booked). rulesOf (b .month)) e;
-      board = ap (λ (b : Booked). boardOf (b .month)) e ∙ ap (λ t. pick t (handed (rulesOf m) (boardOf m) c) (boardOf m)) w;
-    }
+-- each call's contract is the same equation
+pub answer-is : (m : Month) (c : Call Fee Item) (k : ℕ) (n : Month) → Answers m c k n → booked k n ≡ answerOf m c
+unfolding answerOf refusalOf nextOf rulingOn handed nextOn
+answer-is m (Call.post d x a) k n e = e
+answer-is m (Call.replace d x a) k n e = e
+answer-is m (Call.withdraw d x) k n e = e
+answer-is m (Call.lossFee f z) k n e = e
+answer-is m Call.close k n e = e
 
-pub answers : (m : Month) (c : Call ℤ) (k : ℕ) (n : Month) → wellFormed (rulesOf m) (boardOf m) ≡ true → Answers m c k n → Stepped (rulesOf m) (boardOf m) c k (rulesOf n) (boardOf n)
-answers m (Call.post d x a) k n w e = step m (Call.post d x a) k n w e
-answers m (Call.replace d x a) k n w e = step m (Call.replace d x a) k n w e
-answers m (Call.withdraw d x) k n w e = step m (Call.withdraw d x) k n w e
-answers m (Call.lossFee f) k n w e = step m (Call.lossFee f) k n w e
-answers m Call.close k n w e = step m Call.close k n w e
+pub step : (m : Month) (c : Call Fee Item) (k : ℕ) (n : Month) → booked k n ≡ answerOf m c
+    → (k ≡ refusalOf (rulesOf m) (boardOf m) c) × (n .days ≡ m .days) × (boardOf n ≡ nextOf (rulesOf m) (boardOf m) c)
+unfolding answerOf
+step m c k n e = (ap (λ (b : Booked). b .refusal) e, ap (λ (b : Booked). b .month .days) e, ap (λ (b : Booked). boardOf (b .month)) e)
 
--- a read-out of a well-formed month
-pub reads : (m : Month) (r t : ℕ × ℤ) → wellFormed (rulesOf m) (boardOf m) ≡ true → told r ≡ orReachable m t → r ≡ t
-reads m r t w e = ap (λ (x : Told). (x .refusal, x .amount .0)) e ∙ ap (λ b. pick b t (notReachable, pos 0)) w
-
-pub opens-fresh : (days : ℕ) (m : Month) → booked 0 m ≡ openOf days → (rulesOf m ≡ monthRules days) × (boardOf m ≡ fresh (monthRules days))
+pub opens-fresh : (days : ℕ) (m : Month) → booked 0 m ≡ openOf days → (isDays days ≡ true) × (m .days ≡ days) × (boardOf m ≡ fresh (monthRules days))
 unfolding openOf freshMonth fresh
 opens-fresh days m e =
     by-test (isDays days)
     (λ (t : isDays days ≡ true).
     let f : m ≡ freshMonth days = ap (λ (b : Booked). b .month) e ∙ ap (λ b. pick b (freshMonth days) (freshMonth 0)) t in
-    (ap rulesOf f, ap boardOf f))
+    (t, ap (λ (n : Month). n .days) f, ap boardOf f))
     (λ (t : isDays days ≡ false).
     let z : 0 ≡ notInMonth = ap (λ (b : Booked). b .refusal) e ∙ ap (λ b. unless b notInMonth 0) t in
     absurd (omega arith))
 
-pub counts : (m : Month) (r : ℕ × ℕ) → wellFormed (rulesOf m) (boardOf m) ≡ true → record { refusal = r .0; hours = r .1 } ≡ standingOf m → r ≡ (0, hoursOn (rulesOf m) (boardOf m))
-unfolding standingOf
-counts m r w e = ap (λ (x : Counted). (x .refusal, x .hours)) (e ∙ ap (λ b. pick b (record { refusal = 0; hours = hoursOn (rulesOf m) (boardOf m) }) (record { refusal = notReachable; hours = 0 })) w)
+pub reads : (r t : ℕ × ℤ) → told r ≡ toldOf t → r ≡ t
+reads r t e = ap (λ (x : Told). (x .refusal, x .amount .0)) e
 
 unfoldable pub month-laws : Lawful monthLedger
-unfolding hourOf dayOf totalOf
+unfolding hourOf dayOf totalOf standingOf
 month-laws =
     record {
-      rules = rulesOf;
+      plan = λ m. m .days;
       board = boardOf;
+      sound = month-sound;
       opens = opens-fresh;
-      answers = answers;
-      hour = λ m d x r w e. reads m r _ w e;
-      day = λ m d r w e. reads m r _ w e;
-      total = λ m r w e. reads m r _ w e;
-      hours = counts;
+      answers = λ m c k n a. step m c k n (answer-is m c k n a);
+      hour = λ m d x r e. reads r _ e;
+      day = λ m d r e. reads r _ e;
+      part = λ m q r e. absurd e;
+      total = λ m r e. reads r _ e;
+      hours = λ m r e. ap (λ (x : Counted). (x .refusal, x .hours)) e;
     }
 
 -- a refused call hands the same ledger back
-pub refused-same : (m : Month) (c : Call ℤ) → (answerOf m c .refusal ≡ 0 → ⊥) → answerOf m c .month ≡ m
+pub refused-same : (m : Month) (c : Call Fee Item) → (answerOf m c .refusal ≡ 0 → ⊥) → answerOf m c .month ≡ m
 unfolding answerOf refusalOf nextOf handed
 refused-same m c f =
     by-test (wellFormed (rulesOf m) (boardOf m))
@@ -138,5 +134,5 @@ unfolding openOf
 opens days d r e = let f = e ∙ ap (λ b. record { refusal = unless b notInMonth 0; month = pick b (freshMonth days) (freshMonth 0) }) d in (ap (λ (b : Booked). b .refusal) f, ap (λ (b : Booked). b .month) f)
 
 -- and whatever is called then, the ledger tells what its history tells
-pub demand3 : (days : ℕ) → isDays days ≡ true → (h : List (Entry ℤ)) (m : Month) → Run monthLedger days h m → Demand3 monthLedger days h m
-demand3 days d = any-demand3 monthLedger month-laws days (month-sound days d)
+pub demand3 : (days : ℕ) (h : List (Entry Fee Item)) (m : Month) → Run monthLedger days h m → Demand3 monthLedger days h m
+demand3 = any-demand3 monthLedger month-laws

@@ -13,12 +13,12 @@ use Rattle.units.specs.Refusals.{notReachable, notInMonth}
 use Rattle.history.specs.Board.{wellFormed, hourOn, dayOn, totalOn}
 use Rattle.history.proofs.Days.{hours-even}
 use Rattle.board.specs.Board.{toldOf}
-use Rattle.month.specs.Month.{rulesOf, boardOf, orReachable, hourOf, dayOf, totalOf}
+use Rattle.month.specs.Month.{rulesOf, boardOf, readOut, hourOf, dayOf, totalOf}
 use Rattle.month.specs.declared.Month.{Month}
 use Rattle.month.proofs.Sound.{most-days, well-days}
 
 -- 22
-pub told-22 : (m : Month) (t : ℕ × ℤ) → wellFormed (rulesOf m) (boardOf m) ≡ false → toldOf (notReachable, pos 0) ≡ orReachable m t
+pub told-22 : (m : Month) (t : ℕ × ℤ) → wellFormed (rulesOf m) (boardOf m) ≡ false → toldOf (notReachable, pos 0) ≡ readOut m t
 told-22 m t w = rw w
 
 module _ (m : Month) (w : wellFormed (rulesOf m) (boardOf m) ≡ true) where

@@ -62,4 +62,4 @@ module _ (m : Month) (g : Good (rulesOf m) (boardOf m)) where
   all-within = let w = sum-within 744 (λ p. getD (m .amounts) p (pos 0)) (λ i l. amount-within i) in omega arith
 
   pub fee-within : Within 100000000000 (m .fee .0)
-  fee-within = in-within-below (passed (inRange (pos 0) (pos 100000000000) (m .fee .0)) 2 0 (g .fee-fits) .0)
+  fee-within = in-within-below (passed (inRange (pos 0) (pos 100000000000) (m .fee .0)) 2 0 (g .fee-fits tt) .0)

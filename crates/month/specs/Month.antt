@@ -7,10 +7,10 @@ use lib.IntN.{ℤ, pos, natAbs}
 use lib.ListN.{getD, replicate}
 use Rattle.whole.specs.Choice.{pick, unless}
 use Rattle.whole.specs.Folds.{allTo}
-use Rattle.units.specs.Refusals.{notInMonth, notReachable}
+use Rattle.units.specs.Refusals.{notInMonth}
 use Rattle.history.specs.Rules.{Call, Rules, placesOf}
-use Rattle.history.specs.Board.{Board, wellFormed, refusalOf, nextOf, hourOn, dayOn, totalOn, hoursOn}
-use Rattle.board.specs.Board.{isDays, amountRefusal, monthRules, dollars, toldOf}
+use Rattle.history.specs.Board.{Board, refusalOf, nextOf, orReachable, hourOn, dayOn, totalOn, hoursOn}
+use Rattle.board.specs.Board.{Fee, Item, isDays, amountRefusal, monthRules, dollars, toldOf}
 use Rattle.board.specs.declared.Head.{Head}
 use Rattle.board.specs.declared.Told.{Told}
 use Rattle.month.specs.declared.Month.{Month}
@@ -28,14 +28,14 @@ placesFit days filled amounts = allTo 744 (λ p. placeFits days p (getD filled p
 
 -- ---- the ledger as a board
 
-abbrev pub rulesOf : Month → Rules ℤ
+abbrev pub rulesOf : Month → Rules Fee Bool ℤ
 rulesOf m = monthRules (m .days)
 
-abbrev pub boardOf : Month → Board ℤ
-boardOf m = record { closed = m .closed; fee = m .fee .0; marks = m .filled; items = m .amounts }
+abbrev pub boardOf : Month → Board Fee Bool ℤ
+boardOf m = record { closed = m .closed; fee = λ _. m .fee .0; marks = m .filled; items = m .amounts }
 
-abbrev pub monthOf : ℕ → Board ℤ → Month
-monthOf days b = record { days = days; closed = b .closed; fee = dollars (b .fee); filled = b .marks; amounts = b .items }
+abbrev pub monthOf : ℕ → Board Fee Bool ℤ → Month
+monthOf days b = record { days = days; closed = b .closed; fee = dollars (b .fee tt); filled = b .marks; amounts = b .items }
 
 -- ---- the calls
 
@@ -56,27 +56,28 @@ unfoldable pub openOf : ℕ → Booked
 openOf days = record { refusal = unless (isDays days) notInMonth 0; month = pick (isDays days) (freshMonth days) (freshMonth 0) }
 
 -- any other call: 22, 9, 6, 3, then 7 or 8; a refusal hands the same ledger back
-unfoldable pub answerOf : Month → Call ℤ → Booked
+unfoldable pub answerOf : Month → Call Fee Item → Booked
 answerOf m c = record { refusal = refusalOf (rulesOf m) (boardOf m) c; month = monthOf (m .days) (nextOf (rulesOf m) (boardOf m) c) }
 
 -- ---- the read-outs: 22, then what the board tells
 
-abbrev pub orReachable : Month → ℕ × ℤ → Told
-orReachable m t = toldOf (pick (wellFormed (rulesOf m) (boardOf m)) t (notReachable, pos 0))
+abbrev pub readOut : Month → ℕ × ℤ → Told
+readOut m t = toldOf (orReachable (rulesOf m) (pos 0) (boardOf m) t)
 
 -- one hour: 22, 6, 8
 unfoldable pub hourOf : Month → ℕ → ℕ → Told
-hourOf m day hour = orReachable m (hourOn (rulesOf m) (boardOf m) day hour)
+hourOf m day hour = readOut m (hourOn (rulesOf m) (boardOf m) day hour)
 
 -- a day's sum: 22, 6
 unfoldable pub dayOf : Month → ℕ → Told
-dayOf m day = orReachable m (dayOn (rulesOf m) (boardOf m) day)
+dayOf m day = readOut m (dayOn (rulesOf m) (boardOf m) day)
 
 -- the month total: 22
 unfoldable pub totalOf : Month → Told
-totalOf m = orReachable m (0, totalOn (rulesOf m) (boardOf m))
+totalOf m = readOut m (0, totalOn (rulesOf m) (boardOf m))
 
 -- the number of standing hours: 22
 unfoldable pub standingOf : Month → Counted
 standingOf m =
-    pick (wellFormed (rulesOf m) (boardOf m)) (record { refusal = 0; hours = hoursOn (rulesOf m) (boardOf m) }) (record { refusal = notReachable; hours = 0 })
+    let r = orReachable (rulesOf m) 0 (boardOf m) (0, hoursOn (rulesOf m) (boardOf m)) in
+    record { refusal = r .0; hours = r .1 }

@@ -13,7 +13,7 @@ ghost use Rattle.whole.specs.Whole.{summed};
 ghost use Rattle.history.specs.Rules.{Call};
 ghost use Rattle.history.specs.Board.{wellFormed};
 ghost use Rattle.units.specs.Refusals.{notReachable};
-ghost use Rattle.board.specs.Board.{isDays, dollars, toldOf};
+ghost use Rattle.board.specs.Board.{amountItem, isDays, dollars, toldOf};
 ghost use Rattle.month.specs.Month.{placeFits, placesFit, headOf, bookedOf, rulesOf, boardOf, freshMonth, openOf, answerOf, hourOf, dayOf, totalOf, standingOf};
 use board::Head;
 use board::Told;
@@ -211,7 +211,7 @@ impl Month {
 
     // Puts an amount at an hour that is empty.
     pub fn post(self, day: u8, hour: u8, amount: Dollars) -> Booked
-        ensures { λ r. ⌜ r ≡ answerOf self (Call.post day hour (amount .0)) ⌝ }
+        ensures { λ r. ⌜ r ≡ answerOf self (Call.post day hour (amountItem (amount .0))) ⌝ }
     {
         if !self.well_formed() {
             return self.unreachable();
@@ -225,7 +225,7 @@ impl Month {
 
     // Puts another amount at an hour that stands.
     pub fn replace(self, day: u8, hour: u8, amount: Dollars) -> Booked
-        ensures { λ r. ⌜ r ≡ answerOf self (Call.replace day hour (amount .0)) ⌝ }
+        ensures { λ r. ⌜ r ≡ answerOf self (Call.replace day hour (amountItem (amount .0))) ⌝ }
     {
         if !self.well_formed() {
             return self.unreachable();
@@ -253,7 +253,7 @@ impl Month {
 
     // Sets the loss fee, which replaces the former.
     pub fn loss_fee(self, amount: Dollars) -> Booked
-        ensures { λ r. ⌜ r ≡ answerOf self (Call.lossFee (amount .0)) ⌝ }
+        ensures { λ r. ⌜ r ≡ answerOf self (Call.lossFee tt (amount .0)) ⌝ }
     {
         if !self.well_formed() {
             return self.unreachable();

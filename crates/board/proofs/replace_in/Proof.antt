@@ -4,7 +4,7 @@ use mathlib.Core.Bool.{true, false}
 use Rattle.whole.specs.Choice.{unless, orElse}
 use Rattle.history.specs.Rules.{Call, rulingAt}
 use Rattle.history.specs.Board.{rulingOn, nextOn}
-use Rattle.board.specs.Board.{amountRefusal, placeOf, monthRules}
+use Rattle.board.specs.Board.{amountItem, amountRefusal, placeOf, monthRules}
 use Rattle.board.proofs.Core.{placing-hands}
 use lib.ListN.{getD}
 use Rattle.units.specs.Refusals.{placeEmpty}
@@ -52,7 +52,7 @@ returns c =
     let a = o .before .before .before .before .before .before .before .args in
     let number = ap (rulingAt (monthRules (a .head .days)) (a .head .closed) (a .day) (a .hour)) (rest o) in (
       p .placing .ensures .0 ∙ number,
-      placing-hands (a .head) (a .filled .now) _ (a .amounts .now) _ (Call.replace (a .day) (a .hour) (a .amount .0)) _ (placeOf (a .day) (a .hour)) true (a .amount .0)
+      placing-hands (a .head) (a .filled .now) _ (a .amounts .now) _ (Call.replace (a .day) (a .hour) (amountItem (a .amount .0))) _ (placeOf (a .day) (a .hour)) true (a .amount .0)
           (sym number) refl (p .placing .ensures .1 .0) (p .placing .ensures .1 .1),
     )
 

@@ -39,7 +39,7 @@ returns-2 c =
     let e = h .before .before .before in
     let a = e .before .before .args in
     let m = a .self in
-    let call = Call.lossFee (a .amount .0) in
+    let call = Call.lossFee tt (a .amount .0) in
     let well : wellFormed (rulesOf m) (boardOf m) ≡ true = sym (e .before .well-formed .ensures) ∙ not-false _ (e .if1 .left) in
     let heads = heads-fee (headOf m) (m .filled) (m .amounts) (a .amount .0) in
     c .put-together .ensures

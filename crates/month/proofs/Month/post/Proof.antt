@@ -4,6 +4,7 @@ use mathlib.Core.Bool.{true}
 use borrow.Author.Tests.{not-true, not-false}
 use Rattle.history.specs.Rules.{Call}
 use Rattle.history.specs.Board.{wellFormed}
+use Rattle.board.specs.Board.{amountItem}
 use Rattle.month.specs.Month.{rulesOf, boardOf, headOf}
 use Rattle.month.proofs.Core.{answer-22, answer-in}
 use borrow.Author.Needs.{needs}
@@ -44,7 +45,7 @@ returns-2 c =
     let number = rw (h .head .ensures) at (p .post-in .ensures .0) in
     let board = rw (h .head .ensures) at (p .post-in .ensures .1) in
     (rw (h .head .ensures) at (c .put-together .ensures))
-    ∙ answer-in (a .self) (Call.post (a .day) (a .hour) (a .amount .0)) _ (headOf (a .self)) _ _ well number board refl
+    ∙ answer-in (a .self) (Call.post (a .day) (a .hour) (amountItem (a .amount .0))) _ (headOf (a .self)) _ _ well number board refl
 
 pub post-spec : {M : Type 1} → statement M
 post-spec =
