@@ -4,7 +4,7 @@ use Prim.Native.Nat.{ℕ, _+_, _-_, _*_, _/_, _%_, _<_, _≤_}
 use native.Mathlib.Omega.{arith}
 use native.Mathlib.Numerals.{add-one}
 use mathlib.Core.Path.{_≡_, refl, sym, ap, _∙_, subst}
-use mathlib.Core.Bool.{Bool, true, false, not, _&&_, _||_}
+use mathlib.Core.Bool.{Bool, true, false, not, _&&_, _||_, and-true}
 use mathlib.Core.List.{List, [], _∷_, _++_, append-assoc, append-nil}
 use lib.Dec.{ltb, eqb}
 use lib.ListN.{length, getD, take, drop, set, length-set}
@@ -137,28 +137,29 @@ module _ (l run : List ℕ) (n i : ℕ) (even : length l ≡ 2 * n) (same : leng
   abbrev low : ℕ
   low = getD l (2 * i + 1) 0
 
-  all-left : i < length run → (t : Bool) → isDigit high && isDigit low ≡ t → allDigits (drop (2 * i) l) ≡ t && allDigits (drop (2 * (i + 1)) l)
-  all-left h t e = ap allDigits (two-left l i (omega arith)) ∙ by (isDigit high) (isDigit low) e
-    where
-      by : (a b : Bool) → a && b ≡ t → a && (b && allDigits (drop (2 * (i + 1)) l)) ≡ t && allDigits (drop (2 * (i + 1)) l)
-      by true b p = rw p
-      by false b p = ap (λ (u : Bool). u && allDigits (drop (2 * (i + 1)) l)) p
-
-  pub decode-stop : allDigits l ≡ allDigits (drop (2 * i) l) → i < length run → isDigit high && isDigit low ≡ false → false ≡ allDigits l
-  decode-stop e h f = sym (e ∙ all-left h false f)
-
-  pub decode-digits : allDigits l ≡ allDigits (drop (2 * i) l) → i < length run → isDigit high && isDigit low ≡ true → allDigits l ≡ allDigits (drop (2 * (i + 1)) l)
-  decode-digits e h f = e ∙ all-left h true f
+  pub two-next : allDigits (drop (2 * i) l) ≡ true → i < length run → (isDigit high ≡ true) × (isDigit low ≡ true) × (allDigits (drop (2 * (i + 1)) l) ≡ true)
+  two-next a h = two-digits high low (drop (2 * (i + 1)) l) (sym (ap allDigits (two-left l i (omega arith))) ∙ a)
 
   pub decode-next : take i run ++ bytesOf (drop (2 * i) l) ≡ bytesOf l → i < length run
       → take (i + 1) (set run i (valueOf high * 16 + valueOf low)) ++ bytesOf (drop (2 * (i + 1)) l) ≡ bytesOf l
   decode-next e h = fill-next run i _ _ h ∙ ap (λ (r : List ℕ). take i run ++ bytesOf r) (sym (two-left l i (omega arith))) ∙ e
 
-  pub decode-done : allDigits l ≡ allDigits (drop (2 * i) l) → take i run ++ bytesOf (drop (2 * i) l) ≡ bytesOf l → length run ≤ i
-      → (true ≡ allDigits l) × (run ≡ bytesOf l)
-  decode-done a e h =
+  pub decode-done : take i run ++ bytesOf (drop (2 * i) l) ≡ bytesOf l → length run ≤ i → run ≡ bytesOf l
+  decode-done e h =
       let none : drop (2 * i) l ≡ [] = no-rest l (2 * i) (omega arith) in
-      (sym (a ∙ ap allDigits none), sym (fill-done run i h) ∙ ap (λ (r : List ℕ). take i run ++ bytesOf r) (sym none) ∙ e)
+      sym (fill-done run i h) ∙ ap (λ (r : List ℕ). take i run ++ bytesOf r) (sym none) ∙ e
+
+-- the digits of a line, tested one by one
+and-next : (a b c : Bool) → a && (b && c) ≡ (a && b) && c
+and-next true b c = refl
+and-next false b c = refl
+
+pub digits-next : (l : List ℕ) (i : ℕ) (all : Bool) → allDigits l ≡ all && allDigits (drop i l) → i < length l
+    → allDigits l ≡ (all && isDigit (getD l i 0)) && allDigits (drop (i + 1) l)
+digits-next l i all e h = e ∙ ap (λ (r : List ℕ). all && allDigits r) (rest l i 0 h) ∙ and-next all _ _
+
+pub digits-done : (l : List ℕ) (i : ℕ) (all : Bool) → allDigits l ≡ all && allDigits (drop i l) → length l ≤ i → all ≡ allDigits l
+digits-done l i all e h = sym (e ∙ ap (λ (r : List ℕ). all && allDigits r) (no-rest l i h) ∙ and-true all)
 
 -- bytes are encoded into a run, two digits from a byte
 module _ (bs run : List ℕ) (n i : ℕ) (even : n ≡ 2 * length bs) (same : length run ≡ n)

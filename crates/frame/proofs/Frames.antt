@@ -77,6 +77,15 @@ module _ (entry : Entry) (run : List ℕ) where
   unfolding written
   write-right h = sym (kept-new (lineOf entry) run h)
 
+  -- 1, then 13
+  pub length-refuses : (length run ≡ 24 → ⊥) → writeRefusal entry (length run) ≡ 1
+  unfolding writeRefusal
+  length-refuses h = rw (ne-eqb (length run) 24 h)
+
+  pub form-refuses : length run ≡ 24 → inForm entry ≡ false → writeRefusal entry (length run) ≡ 13
+  unfolding writeRefusal
+  form-refuses h f = rw (eq-eqb (length run) 24 h, f)
+
   -- what it takes
   pub taken : writeRefusal entry (length run) ≡ 0 → (length run ≡ 24) × (inForm entry ≡ true)
   unfolding writeRefusal

@@ -3,7 +3,7 @@ ghost use Prim.Native.Nat.{_+_, _*_, _<_};
 ghost use mathlib.Core.Path.{_≡_};
 ghost use mathlib.Core.Bool.{true};
 ghost use lib.ListN.{length};
-ghost use Rattle.frame.specs.Digits.{digitOf, valueOf, isDigit, allDigits, digitsOf, bytesOf};
+ghost use Rattle.frame.specs.Digits.{digitOf, sixteen, valueOf, isDigit, allDigits, digitsOf, bytesOf};
 
 const DIGITS: [u8; 16] = [
     b'0',
@@ -24,12 +24,13 @@ const DIGITS: [u8; 16] = [
     b'F',
 ];
 
-// The digit of a value. No other function knows how it is found.
-fn digit(value: u8) -> u8
+// The digit of a value, in the sixteen digits. A line makes them once.
+fn digit(digits: &[u8; 16], value: u8) -> u8
     requires { ⌜ value < 16 ⌝ }
+    requires { ⌜ now digits ≡ sixteen ⌝ }
     ensures { λ r. ⌜ r ≡ digitOf value ⌝ }
 {
-    DIGITS[value as usize]
+    digits[value as usize]
 }
 
 // Whether a byte of a line is a digit that is allowed.
@@ -56,21 +57,43 @@ fn byte(high: u8, low: u8) -> u8
     value(high) * 16 + value(low)
 }
 
-// Whether a line has only digits that are allowed; where it has, its bytes.
-pub(crate) fn decode(line: &[u8], bytes: &mut [u8]) -> bool
+// Whether a line has only digits that are allowed. It goes on past one that is not, so that several are tested at a time.
+fn all_digits(line: &[u8]) -> bool
+    ensures { λ r. ⌜ r ≡ allDigits (now (line .entry)) ⌝ }
+{
+    let mut all = true;
+    let mut i = 0;
+    while i < line.len() {
+        all = all & is_digit(line[i]);
+        i += 1;
+    }
+    all
+}
+
+// The bytes of digits.
+fn put_values(line: &[u8], bytes: &mut [u8])
     requires { ⌜ length (now line) ≡ 2 * length (now bytes) ⌝ }
-    ensures { λ r. ⌜ (r ≡ allDigits (now (line .entry))) × (r ≡ true → now (bytes .exit) ≡ bytesOf (now (line .entry))) ⌝ }
+    requires { ⌜ allDigits (now line) ≡ true ⌝ }
+    ensures { λ _. ⌜ now (bytes .exit) ≡ bytesOf (now (line .entry)) ⌝ }
 {
     let mut i = 0;
     while i < bytes.len() {
         let high = line[2 * i];
         let low = line[2 * i + 1];
-        if !(is_digit(high) & is_digit(low)) {
-            return false;
-        }
         bytes[i] = byte(high, low);
         i += 1;
     }
+}
+
+// Whether a line has only digits that are allowed; where it has, its bytes.
+pub(crate) fn decode(line: &[u8], bytes: &mut [u8]) -> bool
+    requires { ⌜ length (now line) ≡ 2 * length (now bytes) ⌝ }
+    ensures { λ r. ⌜ (r ≡ allDigits (now (line .entry))) × (r ≡ true → now (bytes .exit) ≡ bytesOf (now (line .entry))) ⌝ }
+{
+    if !all_digits(line) {
+        return false;
+    }
+    put_values(line, bytes);
     true
 }
 
@@ -79,11 +102,12 @@ pub(crate) fn encode(bytes: &[u8], line: &mut [u8])
     requires { ⌜ length (now line) ≡ 2 * length (now bytes) ⌝ }
     ensures { λ _. ⌜ now (line .exit) ≡ digitsOf (now (bytes .entry)) ⌝ }
 {
+    let digits = DIGITS;
     let mut i = 0;
     while i < bytes.len() {
         let b = bytes[i];
-        line[2 * i] = digit(b / 16);
-        line[2 * i + 1] = digit(b % 16);
+        line[2 * i] = digit(&digits, b / 16);
+        line[2 * i + 1] = digit(&digits, b % 16);
         i += 1;
     }
 }

@@ -97,6 +97,9 @@ fn in_form(entry: Entry) -> bool
 {
     let k = entry.kind;
     let amount = entry.amount;
+    if (k == kinds::POST) | (k == kinds::REPLACE) {
+        return true;
+    }
     (k <= kinds::CLOSE)
         & (uses_day(k) | (entry.day == 0))
         & (uses_hour(k) | (entry.hour == 0))
@@ -165,21 +168,15 @@ fn put_line(entry: Entry, line: &mut [u8])
     digit::encode(&bytes, line);
 }
 
-// For a run of n bytes: 1, then 13.
-fn write_refusal(entry: Entry, n: usize) -> u8
-    ensures { λ r. ⌜ r ≡ writeRefusal entry n ⌝ }
-{
-    let form = whole::unless(in_form(entry), refusals::BAD_KIND, 0);
-    whole::unless(n == 24, refusals::WRONG_LENGTH, form)
-}
-
 // Fills a lent run of 24 bytes with the entry's line, without a line end; or answers 1 or 13 and leaves the run as it was.
 pub fn write_frame(entry: Entry, line: &mut [u8]) -> u8
     ensures { λ r. ⌜ (r ≡ writeRefusal entry (length (now (line .entry)))) × (now (line .exit) ≡ written entry (now (line .entry))) ⌝ }
 {
-    let refusal = write_refusal(entry, line.len());
-    if refusal != 0 {
-        return refusal;
+    if line.len() != 24 {
+        return refusals::WRONG_LENGTH;
+    }
+    if !in_form(entry) {
+        return refusals::BAD_KIND;
     }
     put_line(entry, line);
     0

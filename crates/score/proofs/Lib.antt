@@ -1,5 +1,6 @@
 -- What belongs to no one function; `pub` is what crates above cite.
 pub mod Laws
+mod ByInverse
 pub mod Run
 pub mod Rates
 mod Determined

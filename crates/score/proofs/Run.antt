@@ -1,20 +1,22 @@
 -- A run of seconds that is not refused, test by test, and each of its seconds. By the tests of its refusal. Assumes nothing.
-use Prim.Native.Nat.{ℕ, _<_}
-use mathlib.Core.Path.{_≡_, ap}
-use mathlib.Core.Bool.{true, _&&_}
+use Prim.Native.Nat.{ℕ, zero, suc, _<_}
+use mathlib.Core.Path.{_≡_, refl, sym, ap, _∙_}
+use mathlib.Core.Bool.{Bool, true, false, _&&_, and-false}
 use mathlib.Core.List.{List}
 use native.Mathlib.Omega.{arith}
 use lib.Dec.{eqb}
 use lib.IntN.{ℤ, pos}
 use lib.ListN.{length, getD}
 use borrow.Author.Tests.{eqb-true, eq-eqb}
-use Rattle.whole.specs.Whole.{minus, allInRange}
+use Rattle.whole.specs.Choice.{unless}
+use Rattle.whole.specs.Folds.{foldTo, allTo}
+use Rattle.whole.specs.Whole.{minus, inRange, allInRange}
 use Rattle.whole.specs.Runs.{listed}
 use Rattle.whole.proofs.Choice.{and-both, passed}
 use Rattle.whole.proofs.Sums.{all-inside}
 use Rattle.units.specs.declared.Kilowatts.{Kilowatts}
 use Rattle.score.specs.Score.{isCapacity, secondRefusal}
-use Rattle.score.specs.Run.{runRefusal, runScoreAt, runScores}
+use Rattle.score.specs.Run.{secondFits, fitAt, secondsRefusal, runRefusal, runScoreAt, runScores}
 use Rattle.score.proofs.Laws.{fit-second}
 
 pub record RunFit (powers frequencies transfers : List ℤ) (capacity : Kilowatts) (places : ℕ) : Type 0 where
@@ -68,3 +70,46 @@ module _ (powers frequencies transfers : List ℤ) (capacity : Kilowatts) (place
   pub run-scores-is : (n : ℕ) → n ≡ length powers → listed (runScoreAt powers frequencies transfers capacity) 0 n ≡ runScores powers frequencies transfers capacity
   unfolding runScores
   run-scores-is n e = ap (listed (runScoreAt powers frequencies transfers capacity) 0) e
+
+-- ---- the seconds, looked at once
+
+cross : (a b x y : Bool) → ((a && b) && (x && y)) ≡ ((a && x) && (b && y))
+cross true true x y = refl
+cross true false x y = sym (and-false x)
+cross false b x y = refl
+
+-- all of two tests at once
+all-and : (n : ℕ) (a b : ℕ → Bool) → allTo n (λ k. a k && b k) ≡ (allTo n a && allTo n b)
+unfolding foldTo
+all-and zero a b = refl
+all-and (suc n) a b = rw (all-and n a b) (cross (allTo n a) (allTo n b) (a n) (b n))
+
+-- where every test passed, and where one failed
+none : (t r : Bool) → (t && r) ≡ true → unless t 10 (unless r 4 0) ≡ 0
+none t r e = let b = and-both t r e in rw (b .0, b .1)
+
+which : (t r : Bool) → (t && r) ≡ false → unless t 10 4 ≡ unless t 10 (unless r 4 0)
+which true r e = rw e
+which false r e = refl
+
+module _ (powers frequencies transfers : List ℤ) (f : length frequencies ≡ length powers) (t : length transfers ≡ length powers) where
+  abbrev planned : Bool
+  planned = allInRange (minus 100000) (pos 100000) transfers
+
+  abbrev read : Bool
+  read = allInRange (minus 200000) (pos 200000) powers && allInRange (pos 55000) (pos 65000) frequencies
+
+  all-fit : allTo (length powers) (fitAt powers frequencies transfers) ≡ (planned && read)
+  unfolding secondFits allInRange
+  all-fit =
+      let n = length powers in
+      let p : ℕ → Bool = λ (i : ℕ). inRange (minus 200000) (pos 200000) (getD powers i (pos 0)) in
+      let q : ℕ → Bool = λ (i : ℕ). inRange (pos 55000) (pos 65000) (getD frequencies i (pos 0)) in
+      let r : ℕ → Bool = λ (i : ℕ). inRange (minus 100000) (pos 100000) (getD transfers i (pos 0)) in
+      rw (f, t) (all-and n r (λ k. p k && q k) ∙ ap (λ b. allTo n r && b) (all-and n p q))
+
+  pub fit-none : allTo (length powers) (fitAt powers frequencies transfers) ≡ true → secondsRefusal powers frequencies transfers ≡ 0
+  fit-none e = none planned read (sym all-fit ∙ e)
+
+  pub fit-which : allTo (length powers) (fitAt powers frequencies transfers) ≡ false → unless planned 10 4 ≡ secondsRefusal powers frequencies transfers
+  fit-which e = which planned read (sym all-fit ∙ e)

@@ -1,15 +1,17 @@
 // A second's score by its percent output, and an hour's rate by its scores.
 ghost use mathlib.Core.Path.{_≡_};
 ghost use mathlib.Core.Bool.{true};
-ghost use Prim.Native.Nat.{_-_, min, max};
-ghost use lib.IntN.{pos};
+ghost use Prim.Native.Nat.{_*_, _-_, _≤_, min, max};
+ghost use lib.IntN.{pos, natAbs, _*ℤ_};
 ghost use lib.ListN.{length};
 ghost use lib.Signed.{ltZ, leZ};
 ghost use Rattle.whole.specs.Choice.{pick};
-ghost use Rattle.whole.specs.Whole.{up, down, Within, Between};
+ghost use Rattle.whole.specs.Folds.{allTo};
+ghost use Rattle.whole.specs.Whole.{up, down, Within, Between, halfUp, nearest};
 ghost use Rattle.curve.specs.Curve.{uppersOf, lowersOf};
 ghost use Rattle.score.specs.Score.{percentOutput, scoreOf, secondRefusal, judgedBy, secondScore};
-ghost use Rattle.score.specs.Run.{runRefusal, runScores, runLeft};
+ghost use Rattle.score.specs.Inverse.{inverseOf};
+ghost use Rattle.score.specs.Run.{secondFits, fitAt, secondsRefusal, runRefusal, runScores, runLeft};
 ghost use Rattle.score.specs.Rolling.{hourlyRate, rateAfter};
 use units::Kilowatts;
 use units::Millihertz;
@@ -85,33 +87,69 @@ fn judged_by(
     let bounds = curve::curve(frequency);
     let upper = bounds.upper;
     let lower = bounds.lower;
-    by_bounds(power, transfer, capacity, upper, lower)
+    by_bounds(power, transfer, capacity, inverse(capacity), upper, lower)
 }
 
 fn by_bounds(
     power: Kilowatts,
     transfer: Kilowatts,
     capacity: Kilowatts,
+    inverse: u64,
     upper: i64,
     lower: i64,
 ) -> u8
     requires { ⌜ Within 200000 (power .0) × (Within 100000 (transfer .0) × Between (pos 1) (pos 100000) (capacity .0)) ⌝ }
+    requires { ⌜ inverse ≡ inverseOf (natAbs (capacity .0)) ⌝ }
     requires { ⌜ Within 100 upper × (Within 100 lower × (leZ lower upper ≡ true)) ⌝ }
     ensures { λ r. ⌜ r ≡ scoreOf (percentOutput (power .0) (transfer .0) (capacity .0)) upper lower ⌝ }
 {
-    let output = percent_output(power, transfer, capacity);
+    let output = percent_output(power, transfer, capacity, inverse);
     score_of(output, upper, lower)
 }
 
+// What a run of seconds multiplies by, so that it divides by the capacity once.
+fn inverse(capacity: Kilowatts) -> u64
+    requires { ⌜ Between (pos 1) (pos 100000) (capacity .0) ⌝ }
+    ensures { λ r. ⌜ r ≡ inverseOf (natAbs (capacity .0)) ⌝ }
+{
+    let c = capacity.0;
+    17_592_186_044_416 / (2 * whole::size(c)) + 1
+}
+
 // The nearest whole percent of (power - transfer) over capacity.
-fn percent_output(power: Kilowatts, transfer: Kilowatts, capacity: Kilowatts) -> i64
+fn percent_output(power: Kilowatts, transfer: Kilowatts, capacity: Kilowatts, inverse: u64) -> i64
     requires { ⌜ Within 200000 (power .0) × (Within 100000 (transfer .0) × Between (pos 1) (pos 100000) (capacity .0)) ⌝ }
+    requires { ⌜ inverse ≡ inverseOf (natAbs (capacity .0)) ⌝ }
     ensures { λ r. ⌜ r ≡ percentOutput (power .0) (transfer .0) (capacity .0) ⌝ }
 {
     let p = power.0;
     let t = transfer.0;
     let c = capacity.0;
-    whole::nearest((p - t) * 100, c)
+    nearest_percent(p - t, c, inverse)
+}
+
+// Below 32 kW the product with the inverse may not fit 64 bits.
+fn nearest_percent(reach: i64, capacity: i64, inverse: u64) -> i64
+    requires { ⌜ Within 300000 reach × Between (pos 1) (pos 100000) capacity ⌝ }
+    requires { ⌜ inverse ≡ inverseOf (natAbs capacity) ⌝ }
+    ensures { λ r. ⌜ r ≡ nearest (reach *ℤ pos 100) (natAbs capacity) ⌝ }
+{
+    if capacity < 32 {
+        return whole::nearest(reach * 100, capacity);
+    }
+    let size = percents(whole::size(reach), whole::size(capacity), inverse) as i64;
+    if reach < 0 {
+        return -size;
+    }
+    size
+}
+
+fn percents(reach: u64, capacity: u64, inverse: u64) -> u64
+    requires { ⌜ (reach ≤ 300000) × ((32 ≤ capacity) × (capacity ≤ 100000)) ⌝ }
+    requires { ⌜ inverse ≡ inverseOf capacity ⌝ }
+    ensures { λ r. ⌜ (r ≡ halfUp (reach * 100) capacity) × (r ≤ 1000000) ⌝ }
+{
+    (reach * 200 + capacity) * inverse / 17_592_186_044_416
 }
 
 // 100 within the bounds, else 100 less the distance to the nearer bound, and never below 0: 100 less how far the output lies above the upper
@@ -172,21 +210,59 @@ fn run_refusal(
 {
     let n = powers.len();
     let size = capacity.0;
-    let long = (frequencies.len() == n) & (transfers.len() == n) & (places == n);
-    let readings = whole::all_within(powers, -200_000, 200_000)
-        & whole::all_within(frequencies, 55_000, 65_000);
-    let planned = whole::all_within(transfers, -100_000, 100_000);
-    let on_reading = whole::unless(readings, units::refusals::BAD_READING, 0);
-    let on_transfer = whole::unless(planned, units::refusals::BAD_TRANSFER, on_reading);
-    let on_capacity = whole::unless(
-        whole::within(size, 1, 100_000),
-        units::refusals::BAD_CAPACITY,
-        on_transfer,
-    );
-    whole::unless(long, units::refusals::WRONG_LENGTH, on_capacity)
+    if (frequencies.len() == n) & (transfers.len() == n) & (places == n) {
+        let seconds = seconds_refusal(powers, frequencies, transfers);
+        return whole::unless(
+            whole::within(size, 1, 100_000),
+            units::refusals::BAD_CAPACITY,
+            seconds,
+        );
+    }
+    units::refusals::WRONG_LENGTH
 }
 
-// The curve's two tables are made once for the whole run.
+// 10, 4. Seconds that all fit are looked at once.
+fn seconds_refusal(powers: &[i64], frequencies: &[i64], transfers: &[i64]) -> u8
+    requires { ⌜ (length (now frequencies) ≡ length (now powers)) × (length (now transfers) ≡ length (now powers)) ⌝ }
+    ensures { λ r. ⌜ r ≡ secondsRefusal (now (powers .entry)) (now (frequencies .entry)) (now (transfers .entry)) ⌝ }
+{
+    if !seconds_fit(powers, frequencies, transfers) {
+        let planned = whole::all_within(transfers, -100_000, 100_000);
+        return whole::unless(
+            planned,
+            units::refusals::BAD_TRANSFER,
+            units::refusals::BAD_READING,
+        );
+    }
+    0
+}
+
+// Whether every second's transfer, power and frequency lies in its range.
+fn seconds_fit(powers: &[i64], frequencies: &[i64], transfers: &[i64]) -> bool
+    requires { ⌜ (length (now frequencies) ≡ length (now powers)) × (length (now transfers) ≡ length (now powers)) ⌝ }
+    ensures { λ r. ⌜ r ≡ allTo (length (now (powers .entry))) (fitAt (now (powers .entry)) (now (frequencies .entry)) (now (transfers .entry))) ⌝ }
+{
+    let mut i = 0;
+    while i < powers.len() {
+        let p = powers[i];
+        let f = frequencies[i];
+        let t = transfers[i];
+        if !second_fits(p, f, t) {
+            return false;
+        }
+        i += 1;
+    }
+    true
+}
+
+fn second_fits(power: i64, frequency: i64, transfer: i64) -> bool
+    ensures { λ r. ⌜ r ≡ secondFits power frequency transfer ⌝ }
+{
+    whole::within(transfer, -100_000, 100_000)
+        & (whole::within(power, -200_000, 200_000) & whole::within(frequency, 55_000, 65_000))
+}
+
+// The curve's two tables and the capacity's inverse are made once for the whole run.
 fn fill(
     powers: &[i64],
     frequencies: &[i64],
@@ -206,6 +282,7 @@ fn fill(
         frequencies,
         transfers,
         capacity,
+        inverse(capacity),
         scores,
     );
 }
@@ -217,8 +294,10 @@ fn fill_by(
     frequencies: &[i64],
     transfers: &[i64],
     capacity: Kilowatts,
+    inverse: u64,
     scores: &mut [u8],
 )
+    requires { ⌜ inverse ≡ inverseOf (natAbs (capacity .0)) ⌝ }
     requires { ⌜ (now uppers ≡ uppersOf) × (now lowers ≡ lowersOf) ⌝ }
     requires { ⌜ runRefusal (now powers) (now frequencies) (now transfers) capacity (length (now scores)) ≡ 0 ⌝ }
     ensures { λ r. ⌜ now (scores .exit) ≡ runScores (now (powers .entry)) (now (frequencies .entry)) (now (transfers .entry)) capacity ⌝ }
@@ -234,6 +313,7 @@ fn fill_by(
             Kilowatts(power),
             Kilowatts(transfer),
             capacity,
+            inverse,
             Millihertz(frequency),
         );
         scores[i] = s;
@@ -248,8 +328,10 @@ fn judged_in(
     power: Kilowatts,
     transfer: Kilowatts,
     capacity: Kilowatts,
+    inverse: u64,
     frequency: Millihertz,
 ) -> u8
+    requires { ⌜ inverse ≡ inverseOf (natAbs (capacity .0)) ⌝ }
     requires { ⌜ (now uppers ≡ uppersOf) × (now lowers ≡ lowersOf) ⌝ }
     requires { ⌜ secondRefusal power transfer capacity frequency ≡ 0 ⌝ }
     ensures { λ r. ⌜ r ≡ judgedBy power transfer capacity frequency ⌝ }
@@ -257,7 +339,7 @@ fn judged_in(
     let k = curve::place(frequency);
     let upper = uppers[k];
     let lower = lowers[k];
-    by_bounds(power, transfer, capacity, upper, lower)
+    by_bounds(power, transfer, capacity, inverse, upper, lower)
 }
 
 // The hourly rate of 3,600 scores: the smallest of their rolling rates.

@@ -38,7 +38,7 @@ score-of-requires c κs =
     let a = s .args in
     let p = s .pre .0 in
     rw (output-is c, toZ-ofZ (s .fits .upper), toZ-ofZ (s .fits .lower))
-    (output-within (a .power .0) (a .transfer .0) (a .capacity .0) (p .0) (p .1 .0) (p .1 .1), s .pre .1)
+    (output-within (a .power .0) (a .transfer .0) (a .capacity .0) (p .0) (p .1 .0) (p .1 .1), s .pre .1 .1)
 
 returns : tie.Need-returns
 returns c = let b = c .before in rw (output-is b, toZ-ofZ (b .before .fits .upper), toZ-ofZ (b .before .fits .lower)) at (c .score-of .ensures)

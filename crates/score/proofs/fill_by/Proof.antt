@@ -18,14 +18,14 @@ use Rattle.score.proofs.fill_by.Statement.{statement}
 use Rattle.score.proofs.fill_by.Tie as tie
 
 abbrev Inv-loop : tie.InvT-loop
-Inv-loop uppers lowers powers frequencies transfers capacity scores₀ i₀ scores i =
+Inv-loop uppers lowers powers frequencies transfers capacity inverse scores₀ i₀ scores i =
     (i ≤ length powers) × (length scores ≡ length powers) × (scores ≡ filled (runScoreAt powers frequencies transfers capacity) 0 scores₀ i)
 
 abbrev μ-loop : tie.MeasureT-loop
-μ-loop uppers lowers powers frequencies transfers capacity scores₀ i₀ scores i = length powers - i
+μ-loop uppers lowers powers frequencies transfers capacity inverse scores₀ i₀ scores i = length powers - i
 
 fit : (s : tie.Start Inv-loop μ-loop) → RunFit (s .args .powers .now) (s .args .frequencies .now) (s .args .transfers .now) (s .args .capacity) (length (s .args .scores .now))
-fit s = run-fit _ _ _ _ _ (s .pre .1)
+fit s = run-fit _ _ _ _ _ (s .pre .1 .1)
 
 loop-holds : tie.Need-loop-holds Inv-loop μ-loop
 loop-holds c = (omega arith, fit (c .before) .as-places, refl)
@@ -62,7 +62,7 @@ judged-in-requires c κs =
     let l = c .before .before .before .before in
     let s = l .before .before in
     rw (toZ-ofZ (power-fits (c .before .before)), toZ-ofZ (transfer-fits (c .before)), toZ-ofZ (frequency-fits c))
-    (s .pre .0, run-second _ _ _ _ _ (fit s) (l .loop .i) (omega arith))
+    (s .pre .0, (s .pre .1 .0, run-second _ _ _ _ _ (fit s) (l .loop .i) (omega arith)))
 
 slice-write-scores : tie.Need-slice-write-scores Inv-loop μ-loop
 slice-write-scores c = search needs

@@ -36,16 +36,20 @@ upper-is c = toZ-ofZ (upper-fits c) ∙ ap (λ (b : Bounds). b .upper) (bounds-a
 lower-is : (c : tie.After-struct-told2) → toZ w64 (ofZ w64 (c .before .before .curve .result .lower)) ≡ lowerAt (c .before .before .before .args .frequency .0)
 lower-is c = toZ-ofZ (lower-fits c) ∙ ap (λ (b : Bounds). b .lower) (bounds-are (c .before .before))
 
+inverse-requires : tie.Need-inverse-requires
+inverse-requires c κs = inside (fit (c .before .before .before) .capacity)
+
 by-bounds-requires : tie.Need-by-bounds-requires
 by-bounds-requires c κs =
-    let s = c .before .before .before in
+    let b = c .before in
+    let s = b .before .before .before in
     let f = fit s in
     let z = s .args .frequency .0 in
-    rw (upper-is c, lower-is c) ((in-within (f .power), (in-within (f .transfer), inside (f .capacity))), (upper-within z, (lower-within z, bounds-ordered z)))
+    rw (upper-is b, lower-is b) ((in-within (f .power), (in-within (f .transfer), inside (f .capacity))), (c .inverse .ensures, (upper-within z, (lower-within z, bounds-ordered z))))
 
 returns : tie.Need-returns
 unfolding judgedBy
-returns c = let b = c .before in rw (upper-is b, lower-is b) at (c .by-bounds .ensures)
+returns c = let b = c .before .before in rw (upper-is b, lower-is b) at (c .by-bounds .ensures)
 
 pub judged-by-spec : {M : Type 1} → statement M
-judged-by-spec = tie.close (tie.spec curve-requires by-bounds-requires returns)
+judged-by-spec = tie.close (tie.spec curve-requires inverse-requires by-bounds-requires returns)

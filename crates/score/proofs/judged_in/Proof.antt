@@ -19,7 +19,7 @@ use Rattle.score.proofs.judged_in.Statement.{statement}
 use Rattle.score.proofs.judged_in.Tie as tie
 
 fit : (s : tie.Start) → Fit (s .args .power) (s .args .transfer) (s .args .capacity) (s .args .frequency)
-fit s = second-fit (s .args .power) (s .args .transfer) (s .args .capacity) (s .args .frequency) (s .pre .1)
+fit s = second-fit (s .args .power) (s .args .transfer) (s .args .capacity) (s .args .frequency) (s .pre .1 .1)
 
 place-requires : tie.Need-place-requires
 place-requires c κs = search needs
@@ -32,7 +32,7 @@ mul-upper c = let p = place-small c in record { fits = omega arith }
 
 shared-slice-copy-out-upper : tie.Need-shared-slice-copy-out-upper
 shared-slice-copy-out-upper c =
-    let long : length (c .before .args .uppers .now) ≡ 501 = ap (λ (l : List ℤ). length l) (c .before .pre .0 .0) ∙ length-uppers in
+    let long : length (c .before .args .uppers .now) ≡ 501 = ap (λ (l : List ℤ). length l) (c .before .pre .1 .0 .0) ∙ length-uppers in
     let p = place-small c in
     omega arith
 
@@ -42,7 +42,7 @@ mul-lower c = let p = place-small (c .before) in record { fits = omega arith }
 shared-slice-copy-out-lower : tie.Need-shared-slice-copy-out-lower
 shared-slice-copy-out-lower c =
     let s = c .before .before in
-    let long : length (s .args .lowers .now) ≡ 501 = ap (λ (l : List ℤ). length l) (s .pre .0 .1) ∙ length-lowers in
+    let long : length (s .args .lowers .now) ≡ 501 = ap (λ (l : List ℤ). length l) (s .pre .1 .0 .1) ∙ length-lowers in
     let p = place-small (c .before) in
     omega arith
 
@@ -56,19 +56,19 @@ lower-fits c = search needs
 upper-is : (c : tie.After-upper) → toZ w64 (ofZ w64 (getD (c .before .before .args .uppers .now) (c .before .place .result) (pos 0))) ≡ upperAt (c .before .before .args .frequency .0)
 upper-is c =
     let s = c .before .before in
-    toZ-ofZ (upper-fits c) ∙ ap₂ (λ l k. getD l k (pos 0)) (s .pre .0 .0) (c .before .place .ensures) ∙ upper-in (s .args .frequency .0)
+    toZ-ofZ (upper-fits c) ∙ ap₂ (λ l k. getD l k (pos 0)) (s .pre .1 .0 .0) (c .before .place .ensures) ∙ upper-in (s .args .frequency .0)
 
 lower-is : (c : tie.After-lower) → toZ w64 (ofZ w64 (getD (c .before .before .before .args .lowers .now) (c .before .before .place .result) (pos 0))) ≡ lowerAt (c .before .before .before .args .frequency .0)
 lower-is c =
     let s = c .before .before .before in
-    toZ-ofZ (lower-fits c) ∙ ap₂ (λ l k. getD l k (pos 0)) (s .pre .0 .1) (c .before .before .place .ensures) ∙ lower-in (s .args .frequency .0)
+    toZ-ofZ (lower-fits c) ∙ ap₂ (λ l k. getD l k (pos 0)) (s .pre .1 .0 .1) (c .before .before .place .ensures) ∙ lower-in (s .args .frequency .0)
 
 by-bounds-requires : tie.Need-by-bounds-requires
 by-bounds-requires c κs =
     let s = c .before .before .before in
     let f = fit s in
     let z = s .args .frequency .0 in
-    rw (upper-is (c .before), lower-is c) ((in-within (f .power), (in-within (f .transfer), inside (f .capacity))), (upper-within z, (lower-within z, bounds-ordered z)))
+    rw (upper-is (c .before), lower-is c) ((in-within (f .power), (in-within (f .transfer), inside (f .capacity))), (s .pre .0, (upper-within z, (lower-within z, bounds-ordered z))))
 
 returns : tie.Need-returns
 unfolding judgedBy

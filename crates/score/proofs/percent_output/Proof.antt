@@ -1,4 +1,4 @@
--- `score::percent_output` meets its contract: the terms are small, so that each operation fits. Assumes nothing.
+-- `score::percent_output` meets its contract: the difference is small. Assumes nothing.
 use mir.Syntax.{w64}
 use mir.Val.{SFits}
 use mir.Facts.{toZ-ofZ}
@@ -17,23 +17,21 @@ transfer-fits c = search needs
 capacity-fits : (c : tie.After-struct-told3) → SFits w64 (c .before .before .before .args .capacity .0)
 capacity-fits c = search needs
 
-sub-nearest : tie.Need-sub-nearest
-sub-nearest c = rw (toZ-ofZ (power-fits c), toZ-ofZ (transfer-fits c)) (omega signed)
+sub-nearest-percent : tie.Need-sub-nearest-percent
+sub-nearest-percent c = rw (toZ-ofZ (power-fits c), toZ-ofZ (transfer-fits c)) (omega signed)
 
-mul-nearest : tie.Need-mul-nearest
-mul-nearest c =
-    let a = c .before .before .before .args in
-    rw (toZ-ofZ (sub-nearest c), toZ-ofZ (power-fits c), toZ-ofZ (transfer-fits c)) (omega (signed, difference (a .power .0) (a .transfer .0)))
-
-nearest-requires : tie.Need-nearest-requires
-nearest-requires c κs = search needs
+nearest-percent-requires : tie.Need-nearest-percent-requires
+nearest-percent-requires c κs =
+    let s = c .before .before .before in
+    rw (toZ-ofZ (sub-nearest-percent c), toZ-ofZ (power-fits c), toZ-ofZ (transfer-fits c), toZ-ofZ (capacity-fits c))
+    ((omega (signed, difference (s .args .power .0) (s .args .transfer .0)), s .pre .0 .1 .1), s .pre .1)
 
 returns : tie.Need-returns
 unfolding percentOutput
 returns c =
     let s = c .before in
-    back w64 (c .nearest .ok)
-    (rw (toZ-ofZ (mul-nearest s), toZ-ofZ (sub-nearest s), toZ-ofZ (power-fits s), toZ-ofZ (transfer-fits s), toZ-ofZ (capacity-fits s)) at (c .nearest .ensures))
+    back w64 (c .nearest-percent .ok)
+    (rw (toZ-ofZ (sub-nearest-percent s), toZ-ofZ (power-fits s), toZ-ofZ (transfer-fits s), toZ-ofZ (capacity-fits s)) at (c .nearest-percent .ensures))
 
 pub percent-output-spec : {M : Type 1} → statement M
-percent-output-spec = tie.close (tie.spec sub-nearest mul-nearest nearest-requires returns)
+percent-output-spec = tie.close (tie.spec sub-nearest-percent nearest-percent-requires returns)

@@ -1,18 +1,24 @@
--- `frame::digit::digit` meets its contract: the sixteen entries are the formula's values, which is found by computing them. Assumes nothing.
+-- `frame::digit::digit` meets its contract: the sixteen digits are those of the values. Assumes nothing.
 use native.Mathlib.Nat.{zero-add}
 use mathlib.Core.Path.{ap, _∙_}
+use mathlib.Core.List.{List}
+use Prim.Native.Nat.{ℕ}
+use lib.ListN.{getD}
 use borrow.Author.Needs.{needs}
 use Rattle.whole.proofs.Runs.{getD-listed}
-use Rattle.frame.specs.Digits.{digitOf}
+use Rattle.frame.specs.Digits.{digitOf, sixteen}
 use Rattle.frame.proofs.digit.digit.Statement.{statement}
 use Rattle.frame.proofs.digit.digit.Tie as tie
 
-array-read-result : tie.Need-array-read-result
-array-read-result c = search needs
+element-copy-out-result : tie.Need-element-copy-out-result
+element-copy-out-result c = search needs
 
 returns : tie.Need-returns
-unfolding digitOf
-returns c = getD-listed digitOf 0 16 (c .args .value) 0 (c .pre) ∙ ap digitOf (zero-add (c .args .value))
+unfolding sixteen
+returns c =
+    let s = c .before in
+    let v = s .args .value in
+    ap (λ (l : List ℕ). getD l v 0) (s .pre .1) ∙ getD-listed digitOf 0 16 v 0 (s .pre .0) ∙ ap digitOf (zero-add v)
 
 pub digit-spec : {M : Type 1} → statement M
-digit-spec = tie.close (tie.spec array-read-result returns)
+digit-spec = tie.close (tie.spec element-copy-out-result returns)
