@@ -6,7 +6,8 @@ use mathlib.Core.Path.{_≡_, refl}
 use mathlib.Core.List.{List, [], _∷_}
 use lib.IntN.{ℤ, pos, negsuc}
 use Rattle.whole.specs.Whole.{minus}
-use Rattle.asked.specs.Bytes.{separates, parts, isLetter, letterOf, isDigit, digitOf}
+use Rattle.asked.specs.Bytes.{separates, parts, isLetter, isDigit, digitOf}
+use Rattle.words.specs.Words.{letterOf}
 use Rattle.asked.specs.Tokens.{spelled, counted, numbered, lowered, begun, after}
 use Rattle.asked.specs.Asking.{startState, named, asking, faulted, tokenFault, joined, stepped, begins, lineAfter, lastState, nextOf}
 use Rattle.asked.specs.Questions.{Question, numbersWith, numbersStepped, lastQuestion, questions}

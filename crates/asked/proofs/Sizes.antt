@@ -7,7 +7,8 @@ use lib.Dec.{eqb, leb, ltb}
 use borrow.Author.Tests.{leb-true, ltb-true, eqb-true}
 use Rattle.whole.specs.Choice.{unless}
 use Rattle.whole.proofs.Choice.{clash, by-test, and-both, passed, both-passed}
-use Rattle.asked.specs.Bytes.{isLetter, letterOf, isDigit, digitOf}
+use Rattle.asked.specs.Bytes.{isLetter, isDigit, digitOf}
+use Rattle.words.specs.Words.{letterOf}
 use Rattle.asked.specs.Tokens.{limit, faultOf}
 use Rattle.asked.specs.Asking.{mostNumbers, asking, tokenFault, named}
 use Rattle.asked.specs.declared.Asked.{Asked}

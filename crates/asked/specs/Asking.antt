@@ -7,8 +7,9 @@ use lib.IntN.{ℤ}
 use lib.ListN.{length, set}
 use Rattle.whole.specs.Choice.{pick, unless, orElse, kept}
 use Rattle.units.specs.Refusals.{wrongLength}
+use Rattle.words.specs.Faults.{notQuestion, tooMany}
 use Rattle.asked.specs.Bytes.{lineEnd, parts, isLetter}
-use Rattle.asked.specs.Tokens.{notQuestion, tooMany, noWord, grown, isBetween, after, faultOf, valueOf}
+use Rattle.asked.specs.Tokens.{noWord, grown, isBetween, after, faultOf, valueOf}
 use Rattle.asked.specs.declared.Token.{Token}
 use Rattle.asked.specs.declared.Token.the-variants.{Between, Comment, Word, Sign, Number, Below, Other}
 use Rattle.asked.specs.declared.Asked.{Asked}

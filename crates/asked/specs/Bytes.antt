@@ -2,7 +2,6 @@
 use Prim.Native.Nat.{ℕ, _-_}
 use mathlib.Core.Bool.{Bool, _&&_, _||_}
 use lib.Dec.{eqb, leb}
-use Rattle.whole.specs.Choice.{pick}
 
 abbrev pub lineEnd : ℕ
 lineEnd = 10
@@ -26,10 +25,6 @@ parts b = separates b || eqb b hash
 -- "letters: a to z and _"
 unfoldable pub isLetter : ℕ → Bool
 isLetter b = (leb 97 b && leb b 122) || eqb b 95
-
--- a letter's place: a is 1, .., z is 26, _ is 27
-unfoldable pub letterOf : ℕ → ℕ
-letterOf b = pick (leb 97 b) (b - 96) 27
 
 unfoldable pub isDigit : ℕ → Bool
 isDigit b = leb 48 b && leb b 57

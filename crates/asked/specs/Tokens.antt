@@ -5,23 +5,11 @@ use lib.Dec.{eqb, ltb, leb}
 use lib.IntN.{ℤ, pos}
 use Rattle.whole.specs.Choice.{pick, unless}
 use Rattle.whole.specs.Whole.{minus}
-use Rattle.asked.specs.Bytes.{lineEnd, hash, sign, isLetter, letterOf, isDigit, digitOf}
+use Rattle.asked.specs.Bytes.{lineEnd, hash, sign, isLetter, isDigit, digitOf}
+use Rattle.words.specs.Faults.{tooLarge, notNumber}
+use Rattle.words.specs.Words.{letterOf}
 use Rattle.asked.specs.declared.Token.{Token}
 use Rattle.asked.specs.declared.Token.the-variants.{Between, Comment, Word, Sign, Number, Below, Other}
-
--- ---- the faults of a token, and of the number that finds no room
-
-abbrev pub notQuestion : ℕ
-notQuestion = 101
-
-abbrev pub tooLarge : ℕ
-tooLarge = 102
-
-abbrev pub tooMany : ℕ
-tooMany = 104
-
-abbrev pub notNumber : ℕ
-notNumber = 105
 
 -- ---- one byte more
 

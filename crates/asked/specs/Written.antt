@@ -1,6 +1,6 @@
 -- Desk rule, "Reading", from the writer's side: a word, and numbers in decimal after it, by the usual place values. None of this mentions how
 -- the reader goes through them.
-use Prim.Native.Nat.{ℕ, _+_, _*_, _^_, _≤_, _<_}
+use Prim.Native.Nat.{ℕ, _+_, _≤_, _<_}
 use mathlib.Core.Path.{_≡_}
 use mathlib.Core.Bool.{Bool, true, _&&_}
 use mathlib.Core.List.{List, [], _∷_, _++_}
@@ -8,22 +8,14 @@ use lib.IntN.{ℤ, pos}
 use lib.ListN.{length}
 use Rattle.whole.specs.Choice.{pick}
 use Rattle.whole.specs.Whole.{minus}
-use Rattle.asked.specs.Bytes.{lineEnd, sign, isLetter, letterOf, isDigit, digitOf}
+use Rattle.asked.specs.Bytes.{lineEnd, sign, isLetter, isDigit, digitOf}
+use Rattle.words.specs.Words.{placed, codeOf}
 use Rattle.asked.specs.Tokens.{limit, mostSize}
 use Rattle.asked.specs.Asking.{mostNumbers}
 use Rattle.asked.specs.Questions.{Question}
 
--- each place counts its digit times the base to the power of how many places follow
-module _ (base : ℕ) (digit : ℕ → ℕ) where
-  abbrev pub placed : List ℕ → ℕ
-  placed [] = 0
-  placed (b ∷ bs) = digit b * base ^ length bs + placed bs
-
 abbrev pub decimal : List ℕ → ℕ
 decimal = placed 10 digitOf
-
-abbrev pub codeOf : List ℕ → ℕ
-codeOf = placed 32 letterOf
 
 abbrev pub allOf : (ℕ → Bool) → List ℕ → Bool
 allOf test [] = true

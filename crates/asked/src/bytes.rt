@@ -1,6 +1,7 @@
 // The sorts of bytes.
 ghost use mathlib.Core.Path.{_≡_};
-ghost use Rattle.asked.specs.Bytes.{separates, parts, isLetter, letterOf, isDigit, digitOf};
+ghost use Rattle.asked.specs.Bytes.{separates, parts, isLetter, isDigit, digitOf};
+ghost use Rattle.words.specs.Words.{letterOf};
 
 fn separates(b: u8) -> bool
     ensures { λ r. ⌜ r ≡ separates b ⌝ }

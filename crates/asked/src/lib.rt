@@ -4,6 +4,7 @@ ghost use mathlib.Core.Path.{_≡_};
 ghost use lib.ListN.{length};
 ghost use Rattle.asked.specs.Asking.{mostNumbers, startState, named, asking, faulted, tokenFault, joined, finished, stored, lineAfter, begins, stepped, runStepped, takenIn, stateIn, runIn, endedIn, readOf, readRun, endOf, endRun, nextOf, nothing};
 use units::refusals;
+use words::faults;
 
 mod bytes;
 mod tokens;
@@ -58,10 +59,6 @@ pub struct Reached {
     pub ended: bool,
 }
 
-const NOT_QUESTION: u8 = 101;
-
-const TOO_MANY: u8 = 104;
-
 // The last line that is counted.
 const LAST: u64 = 18_446_744_073_709_551_615;
 
@@ -97,7 +94,7 @@ fn named(count: usize, line: u64, code: u64) -> Asked
         word: 0,
         line: line,
         count: count,
-        fault: NOT_QUESTION,
+        fault: faults::NOT_QUESTION,
         place: line,
     }
 }
@@ -132,7 +129,7 @@ fn faulted(asked: Asked, fault: u8, line: u64) -> Asked
 fn token_fault(count: usize, token: Token) -> u8
     ensures { λ r. ⌜ r ≡ tokenFault count token ⌝ }
 {
-    let room = whole::unless(count < MOST, TOO_MANY, 0);
+    let room = whole::unless(count < MOST, faults::TOO_MANY, 0);
     whole::or_else(tokens::fault_of(token), room)
 }
 

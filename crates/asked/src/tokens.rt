@@ -7,6 +7,7 @@ ghost use Rattle.asked.specs.Bytes.{isDigit};
 ghost use Rattle.asked.specs.Tokens.{spelled, counted, numbered, lowered, begun, grown, isBetween, isComment, after, faultOf, valueOf};
 use crate::Token;
 use crate::bytes;
+use words::faults;
 
 // The code of what is no word of at most 12 letters: 2^60.
 pub(crate) const NO_WORD: u64 = 1_152_921_504_606_846_976;
@@ -15,10 +16,6 @@ pub(crate) const NO_WORD: u64 = 1_152_921_504_606_846_976;
 const MOST_SIZE: u64 = 9_223_372_036_854_775_809;
 
 const LIMIT: u64 = 9_223_372_036_854_775_808;
-
-const TOO_LARGE: u8 = 102;
-
-const NOT_NUMBER: u8 = 105;
 
 // A word's code with one byte more.
 fn spelled(code: u64, b: u8) -> u64
@@ -137,13 +134,13 @@ pub(crate) fn fault_of(token: Token) -> u8
     ensures { λ r. ⌜ r ≡ faultOf token ⌝ }
 {
     match token {
-        Token::Between => NOT_NUMBER,
-        Token::Comment => NOT_NUMBER,
-        Token::Word(_) => NOT_NUMBER,
-        Token::Sign => NOT_NUMBER,
-        Token::Number(size) => whole::unless(size < LIMIT, TOO_LARGE, 0),
-        Token::Below(size) => whole::unless(size <= LIMIT, TOO_LARGE, 0),
-        Token::Other => NOT_NUMBER,
+        Token::Between => faults::NOT_NUMBER,
+        Token::Comment => faults::NOT_NUMBER,
+        Token::Word(_) => faults::NOT_NUMBER,
+        Token::Sign => faults::NOT_NUMBER,
+        Token::Number(size) => whole::unless(size < LIMIT, faults::TOO_LARGE, 0),
+        Token::Below(size) => whole::unless(size <= LIMIT, faults::TOO_LARGE, 0),
+        Token::Other => faults::NOT_NUMBER,
     }
 }
 

@@ -1,4 +1,2 @@
 -- What belongs to no one function.
-mod Transcript
-mod Agreed
 mod Piped

@@ -8,8 +8,8 @@ use lib.IntN.{ℤ}
 use Rattle.history.specs.Rules.{Call}
 use Rattle.frame.specs.Frame.{readingOf, lineOf}
 use Rattle.intake.specs.Book.{Book, callOf, callRefusal, callBook, frameRefusal, frameBook, refusalIn, bookIn}
-use Rattle.question.specs.Numbers.{number, byteOf}
-use Rattle.question.specs.Hours.{hourAsked, settlement}
+use Rattle.hours.specs.Numbers.{number, byteOf}
+use Rattle.hours.specs.Hours.{hourAsked, settlement}
 use Rattle.question.specs.Frames.{hourFrame}
 use Rattle.question.specs.Lines as lines
 use Rattle.question.proofs.Posting.{posting, Posts, posts}

@@ -1,4 +1,4 @@
-// The program `desk`: reads, hands what it read to crates/asked, lets crates/question answer each question, writes the answer, and stops.
+// The program `desk`: reads, feeds what it read to crates/replies, writes what that answers, and stops.
 use asked::State;
 ghost use Prim.Native.Nat.{_≤_};
 ghost use lib.ListN.{length};
@@ -11,7 +11,7 @@ struct Turn {
     failed: bool,
 }
 
-// The state after a question, and how far the chunk is read.
+// The state after a call, and how far the chunk is read.
 struct Step {
     state: State,
     from: usize,
@@ -42,39 +42,17 @@ fn within(n: usize, most: usize) -> usize
     n
 }
 
-// Writes the answer to the question that has ended.
-fn answer(state: State, numbers: &[i64], out: &mut [u8]) -> bool {
-    let asked = state.asked;
-    let count = within(asked.count, numbers.len());
-    let said = question::reply(
-        asked.word,
-        asked.line,
-        asked.fault,
-        asked.place,
-        &numbers[..count],
-        out,
-    );
-    let written = said.written;
-    io::write_all(1, &out[..written])
-}
-
-// Reads on from a place of the chunk, up to the end of a question or of the chunk.
-fn read_on(state: State, chunk: &[u8], from: usize, numbers: &mut [i64], out: &mut [u8]) -> Step {
+// Feeds what stands from a place of the chunk on, and writes what that answers.
+fn feed_on(state: State, chunk: &[u8], from: usize, numbers: &mut [i64], out: &mut [u8]) -> Step {
     let start = within(from, chunk.len());
-    let reached = asked::read(state, &chunk[start..], numbers);
-    let next = reached.state;
-    if reached.ended {
-        let wrote = answer(next, numbers, out);
-        return Step {
-            state: asked::next(next),
-            from: start + reached.taken,
-            failed: !wrote,
-        };
-    }
+    let fed = replies::feed(state, &chunk[start..], numbers, out);
+    let next = fed.state;
+    let written = fed.written;
+    let wrote = io::write_all(1, &out[..written]);
     Step {
         state: next,
-        from: chunk.len(),
-        failed: false,
+        from: start + fed.taken,
+        failed: !wrote,
     }
 }
 
@@ -89,7 +67,7 @@ fn answer_all(state: State, chunk: &[u8], numbers: &mut [i64], out: &mut [u8]) -
     let mut steps = u64::MAX;
     while (now.from < chunk.len()) & !now.failed & (0 < steps) {
         let state = now.state;
-        now = read_on(state, chunk, now.from, numbers, out);
+        now = feed_on(state, chunk, now.from, numbers, out);
         steps -= 1;
     }
     now
@@ -115,14 +93,11 @@ fn read_once(state: State, input: &mut [u8], numbers: &mut [i64], out: &mut [u8]
     }
 }
 
-// The input's end: the last question, if there is one.
+// The input's end, and what it answers.
 fn close(state: State, numbers: &mut [i64], out: &mut [u8]) -> bool {
-    let reached = asked::end(state, numbers);
-    let last = reached.state;
-    if reached.ended {
-        return answer(last, numbers, out);
-    }
-    true
+    let finished = replies::finish(state, numbers, out);
+    let written = finished.written;
+    io::write_all(1, &out[..written])
 }
 
 // A read or a write that failed leaves the output without the answers that were to come.

@@ -1,10 +1,8 @@
 -- The laws that belong to no one function; `pub` are those that crates above cite.
 mod Laws
-mod HourLaws
-mod Table
-mod Few
+mod Boxes
+mod Telling
 mod LineLaws
-mod Samples
 pub mod Contracts
 pub mod Posting
 mod Determined

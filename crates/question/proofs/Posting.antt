@@ -17,8 +17,8 @@ use Rattle.frame.specs.declared.Entry.{Entry}
 use Rattle.frame.specs.declared.Reading.the-variants.{Frame}
 use Rattle.frame.proofs.RoundTrip.{Held, read-written}
 use Rattle.hour.proofs.Demand.{hour-within}
-use Rattle.question.specs.Numbers.{number, isByte, byteOf}
-use Rattle.question.specs.Hours.{Hour, hourAsked, settlement}
+use Rattle.hours.specs.Numbers.{number, isByte, byteOf}
+use Rattle.hours.specs.Hours.{Hour, hourAsked, settlement}
 use Rattle.question.specs.Frames.{framed, hourFrame}
 use Rattle.question.specs.Lines.{lineEnd, frameRefusal, frameText}
 

@@ -6,8 +6,8 @@ use lib.IntN.{ℤ, pos}
 use Rattle.whole.specs.Choice.{unless, orElse}
 use Rattle.units.specs.Refusals.{notInMonth, badKind}
 use Rattle.frame.specs.Kinds.{postKind}
-use Rattle.question.specs.Numbers.{number, isByte, byteOf}
-use Rattle.question.specs.Hours.{hourAsked, settlement}
+use Rattle.hours.specs.Numbers.{number, isByte, byteOf}
+use Rattle.hours.specs.Hours.{hourAsked, settlement}
 use Rattle.question.specs.declared.Framed.{Framed}
 
 -- a frame, after the number of a refusal that comes before its own: 13 for a kind that is no byte, then 6 for a day or an hour (desk rule)

@@ -8,8 +8,9 @@ use Rattle.whole.specs.Choice.{pick, orElse, kept}
 use Rattle.units.specs.Refusals.{wrongLength}
 use Rattle.text.specs.Text.{decimalOf, signedText, put}
 use Rattle.frame.specs.Frame.{lineOf, writeRefusal}
-use Rattle.question.specs.Words.{bytes}
-use Rattle.question.specs.Rules.{Reply, reply}
+use Rattle.words.specs.Words.{bytes}
+use Rattle.words.specs.Faults.{notQuestion, tooLarge, tooFew, tooMany, notNumber}
+use Rattle.words.specs.Replies.{Reply, reply}
 use Rattle.question.specs.declared.Answered.{Answered}
 use Rattle.question.specs.declared.Framed.{Framed}
 
@@ -37,21 +38,6 @@ unfoldable pub frameText : Framed → List ℕ
 frameText f = kept (frameRefusal f) (lineOf (f .entry) ++ lineEnd) (lineText (reply (frameRefusal f) []))
 
 -- ---- a fault: its line, its number and its words
-
-abbrev pub notQuestion : ℕ
-notQuestion = 101
-
-abbrev pub tooLarge : ℕ
-tooLarge = 102
-
-abbrev pub tooFew : ℕ
-tooFew = 103
-
-abbrev pub tooMany : ℕ
-tooMany = 104
-
-abbrev pub notNumber : ℕ
-notNumber = 105
 
 -- what is said after the number of the line; of a number that names no fault, that
 unfoldable pub faultWords : ℕ → List ℕ

@@ -5,10 +5,9 @@ ghost use lib.ListN.{length};
 ghost use Rattle.text.specs.Text.{put};
 ghost use Rattle.question.specs.Frames.{framed, frameAsked, hourFrame};
 ghost use Rattle.question.specs.Lines.{room, frameText};
+ghost use Rattle.question.specs.Questions.{frameOf};
 use crate::Framed;
-use crate::hours;
 use crate::lines;
-use crate::rules;
 use frame::Entry;
 use frame::kinds;
 use units::Dollars;
@@ -28,15 +27,15 @@ fn framed(before: u8, kind: i64, day: i64, hour: i64, amount: i64) -> Framed
     Framed {
         refusal: k,
         entry: Entry {
-            kind: rules::byte_of(kind),
-            day: rules::byte_of(day),
-            hour: rules::byte_of(hour),
+            kind: hours::columns::byte_of(kind),
+            day: hours::columns::byte_of(day),
+            hour: hours::columns::byte_of(hour),
             amount: Dollars(amount),
         },
     }
 }
 
-pub(crate) fn asked(numbers: &[i64]) -> Framed
+fn asked(numbers: &[i64]) -> Framed
     ensures { λ r. ⌜ r ≡ frameAsked (now (numbers .entry)) ⌝ }
 {
     framed(
@@ -49,7 +48,7 @@ pub(crate) fn asked(numbers: &[i64]) -> Framed
 }
 
 // The frame that posts an hour's amount.
-pub(crate) fn of_hour(shifting: bool, numbers: &[i64]) -> Framed
+fn of_hour(shifting: bool, numbers: &[i64]) -> Framed
     ensures { λ r. ⌜ r ≡ hourFrame shifting (now (numbers .entry)) ⌝ }
 {
     let mut scores = [0u8; 3600];
@@ -62,6 +61,16 @@ pub(crate) fn of_hour(shifting: bool, numbers: &[i64]) -> Framed
         whole::at(numbers, 1),
         amount.0,
     )
+}
+
+pub(crate) fn answer(asks: words::Framed, numbers: &[i64]) -> Framed
+    ensures { λ r. ⌜ r ≡ frameOf asks (now (numbers .entry)) ⌝ }
+{
+    match asks {
+        words::Framed::DregFrame => of_hour(false, numbers),
+        words::Framed::EdregFrame => of_hour(true, numbers),
+        words::Framed::Frame => asked(numbers),
+    }
 }
 
 // Its 24 digits, or the refusal alone.

@@ -1,40 +1,35 @@
 // The program `desk` between its reading and its printing: a question's word and numbers in, one line of text out.
 ghost use Prim.Native.Nat.{_≤_};
 ghost use mathlib.Core.Path.{_≡_};
-ghost use lib.ListN.{length};
+ghost use lib.ListN.{length, drop};
 ghost use Rattle.text.specs.Text.{put};
-ghost use Rattle.question.specs.Rules.{boxed, rampReply};
-ghost use Rattle.question.specs.Hours.{scoresReply};
+ghost use Rattle.words.specs.Replies.{unboxed};
+ghost use Rattle.words.specs.Shapes.{headOf};
+ghost use Rattle.rules.specs.Rules.{ruleReply};
+ghost use Rattle.question.specs.Rules.{rampReply};
+ghost use Rattle.hours.specs.Hours.{scoresReply};
 ghost use Rattle.question.specs.Lines.{room, lineText, faultText, answered, printed};
-ghost use Rattle.question.specs.Questions.{hours, find, questionOf, fewOf, textOf, answerText, replyText};
+ghost use Rattle.question.specs.Questions.{runOf, answerText, replyText};
+ghost use Rattle.hours.specs.Hours.{hourOf};
 use frame::Entry;
 use units::Kilowatts;
 use units::refusals;
+use words::Few;
+use words::Hour;
+use words::Question;
+use words::Rule;
+use words::Run;
 
-mod counts;
 mod frames;
-mod hours;
 mod lines;
-mod rules;
-mod words;
 
 // The places that a run must have at least, so that every line fits.
 pub const ROOM: usize = 32_768;
-
-// The fault of a word that is none of the questions'.
-const NOT_QUESTION: u8 = 101;
 
 // How a question was answered: the line's length; or 1 and nothing for a run that is too short.
 pub struct Answered {
     pub refusal: u8,
     pub written: usize,
-}
-
-// A refusal's number, and up to seven fields.
-struct Fields {
-    refusal: u8,
-    count: usize,
-    values: [i64; 7],
 }
 
 // An entry, or the number of a refusal before the frame writer's own.
@@ -43,73 +38,38 @@ struct Framed {
     entry: Entry,
 }
 
-// The questions that are answered by a few fields.
-fn fields_of(word: u64, numbers: &[i64]) -> Fields
-    requires { ⌜ questionOf word .counted (now numbers) ≡ 0 ⌝ }
-    ensures { λ r. ⌜ r ≡ boxed (fewOf (questionOf word .answer) (now (numbers .entry))) ⌝ }
-{
-    if word == words::KILOWATTS {
-        return rules::kilowatts(numbers);
-    }
-    if word == words::CURVE {
-        return rules::curve(numbers);
-    }
-    if word == words::SCORE {
-        return rules::score(numbers);
-    }
-    if word == words::RATE {
-        return rules::rate(numbers);
-    }
-    if word == words::BANDS {
-        return rules::bands(numbers);
-    }
-    if word == words::FACTOR {
-        return rules::factor(numbers);
-    }
-    if word == words::FEE {
-        return rules::fee(numbers);
-    }
-    if word == words::QUALITY {
-        return rules::quality(numbers);
-    }
-    if word == words::ENERGY {
-        return rules::energy(numbers);
-    }
-    if word == words::LOSS {
-        return rules::loss(numbers);
-    }
-    hour_fields(word, numbers)
-}
-
-// Those of a whole hour; no other has any.
-fn hour_fields(word: u64, numbers: &[i64]) -> Fields
-    ensures { λ r. ⌜ r ≡ boxed (fewOf (find hours word .answer) (now (numbers .entry))) ⌝ }
-{
-    if word == words::DREG {
-        return hours::fields(false, numbers);
-    }
-    if word == words::EDREG {
-        return hours::fields(true, numbers);
-    }
-    Fields {
-        refusal: 0,
-        count: 0,
-        values: [0; 7],
-    }
-}
-
-// Their line.
-fn put_few(word: u64, numbers: &[i64], out: &mut [u8]) -> usize
-    requires { ⌜ questionOf word .counted (now numbers) ≡ 0 ⌝ }
+// The line of a few fields.
+fn put_few(few: Few, out: &mut [u8]) -> usize
+    requires { ⌜ few .count ≤ 12 ⌝ }
     requires { ⌜ room ≤ length (now out) ⌝ }
-    ensures place { λ r. ⌜ r ≡ length (lineText (fewOf (questionOf word .answer) (now (numbers .entry)))) ⌝ }
-    ensures text { λ r. ⌜ now (out .exit) ≡ put (now (out .entry)) 0 (lineText (fewOf (questionOf word .answer) (now (numbers .entry)))) ⌝ }
+    ensures place { λ r. ⌜ r ≡ length (lineText (unboxed few)) ⌝ }
+    ensures text { λ r. ⌜ now (out .exit) ≡ put (now (out .entry)) 0 (lineText (unboxed few)) ⌝ }
     ensures short { λ r. ⌜ r ≤ room ⌝ }
 {
-    let fields = fields_of(word, numbers);
-    let n = fields.count;
-    let values = fields.values;
-    lines::put_line(fields.refusal, &values[..n], out)
+    let n = few.count;
+    let values = few.values;
+    lines::put_line(few.refusal, &values[..n], out)
+}
+
+fn put_rule(rule: Rule, numbers: &[i64], tail: usize, out: &mut [u8]) -> usize
+    requires { ⌜ room ≤ length (now out) ⌝ }
+    ensures place { λ r. ⌜ r ≡ length (lineText (ruleReply rule (headOf (now (numbers .entry))) (drop tail (now (numbers .entry))))) ⌝ }
+    ensures text { λ r. ⌜ now (out .exit) ≡ put (now (out .entry)) 0 (lineText (ruleReply rule (headOf (now (numbers .entry))) (drop tail (now (numbers .entry))))) ⌝ }
+    ensures short { λ r. ⌜ r ≤ room ⌝ }
+{
+    let head = words::head_of(numbers);
+    let few = rules::answer(rule, head, words::rest(numbers, tail));
+    put_few(few, out)
+}
+
+fn put_hour(hour: Hour, numbers: &[i64], out: &mut [u8]) -> usize
+    requires { ⌜ room ≤ length (now out) ⌝ }
+    ensures place { λ r. ⌜ r ≡ length (lineText (hourOf hour (now (numbers .entry)))) ⌝ }
+    ensures text { λ r. ⌜ now (out .exit) ≡ put (now (out .entry)) 0 (lineText (hourOf hour (now (numbers .entry)))) ⌝ }
+    ensures short { λ r. ⌜ r ≤ room ⌝ }
+{
+    let few = hours::answer(hour, numbers);
+    put_few(few, out)
 }
 
 fn put_ramp(numbers: &[i64], out: &mut [u8]) -> usize
@@ -139,73 +99,48 @@ fn put_hour_scores(shifting: bool, numbers: &[i64], out: &mut [u8]) -> usize
     lines::put_score_line(k, &scores[..n], out)
 }
 
-// The line of a question without a fault.
-fn put_answer(word: u64, numbers: &[i64], out: &mut [u8]) -> usize
-    requires { ⌜ questionOf word .counted (now numbers) ≡ 0 ⌝ }
+fn put_run(run: Run, numbers: &[i64], out: &mut [u8]) -> usize
     requires { ⌜ room ≤ length (now out) ⌝ }
-    ensures place { λ r. ⌜ r ≡ length (textOf (questionOf word .answer) (now (numbers .entry))) ⌝ }
-    ensures text { λ r. ⌜ now (out .exit) ≡ put (now (out .entry)) 0 (textOf (questionOf word .answer) (now (numbers .entry))) ⌝ }
+    ensures place { λ r. ⌜ r ≡ length (lineText (runOf run (now (numbers .entry)))) ⌝ }
+    ensures text { λ r. ⌜ now (out .exit) ≡ put (now (out .entry)) 0 (lineText (runOf run (now (numbers .entry)))) ⌝ }
     ensures short { λ r. ⌜ r ≤ room ⌝ }
 {
-    if word == words::RAMP {
-        return put_ramp(numbers, out);
+    match run {
+        Run::Ramp => put_ramp(numbers, out),
+        Run::DregScores => put_hour_scores(false, numbers, out),
+        Run::EdregScores => put_hour_scores(true, numbers, out),
     }
-    if word == words::DREG_SCORES {
-        return put_hour_scores(false, numbers, out);
-    }
-    if word == words::EDREG_SCORES {
-        return put_hour_scores(true, numbers, out);
-    }
-    if word == words::DREG_FRAME {
-        return frames::put_frame(frames::of_hour(false, numbers), out);
-    }
-    if word == words::EDREG_FRAME {
-        return frames::put_frame(frames::of_hour(true, numbers), out);
-    }
-    if word == words::FRAME {
-        return frames::put_frame(frames::asked(numbers), out);
-    }
-    put_few(word, numbers, out)
 }
 
-// Answers a question that was read: puts its line at the start of out. The word is given by its code, and the line is the one that it is on; a fault
-// that was found while reading comes with its own line. That the word is none of the questions' comes first.
-pub fn reply(
-    word: u64,
-    line: u64,
-    found: u8,
-    place: u64,
-    numbers: &[i64],
-    out: &mut [u8],
-) -> Answered
-    ensures answers { λ r. ⌜ r ≡ answered (length (now (out .entry))) (replyText word line found place (now (numbers .entry))) ⌝ }
-    ensures text { λ r. ⌜ now (out .exit) ≡ printed (now (out .entry)) (replyText word line found place (now (numbers .entry))) ⌝ }
-    ensures short { λ r. ⌜ r .written ≤ length (now (out .entry)) ⌝ }
+// The line of a question without a fault.
+fn put_answer(question: Question, numbers: &[i64], tail: usize, out: &mut [u8]) -> usize
+    requires { ⌜ room ≤ length (now out) ⌝ }
+    ensures place { λ r. ⌜ r ≡ length (answerText question (now (numbers .entry)) tail) ⌝ }
+    ensures text { λ r. ⌜ now (out .exit) ≡ put (now (out .entry)) 0 (answerText question (now (numbers .entry)) tail) ⌝ }
+    ensures short { λ r. ⌜ r ≤ room ⌝ }
 {
-    let k = counts::counted(word, numbers);
-    if (found != 0) & (k != NOT_QUESTION) {
-        return fault(found, place, out);
+    match question {
+        Question::Rule(rule) => put_rule(rule, numbers, tail, out),
+        Question::Hour(hour) => put_hour(hour, numbers, out),
+        Question::Run(run) => put_run(run, numbers, out),
+        Question::Frame(asks) => frames::put_frame(frames::answer(asks, numbers), out),
+        Question::Unknown => lines::put_alone(0, out),
     }
-    answer(word, line, numbers, out)
 }
 
-// The line of a question without a fault in its reading.
-fn answer(word: u64, line: u64, numbers: &[i64], out: &mut [u8]) -> Answered
-    ensures answers { λ r. ⌜ r ≡ answered (length (now (out .entry))) (answerText word line (now (numbers .entry))) ⌝ }
-    ensures text { λ r. ⌜ now (out .exit) ≡ printed (now (out .entry)) (answerText word line (now (numbers .entry))) ⌝ }
+// The answer, where there is room for a line.
+fn answer(question: Question, numbers: &[i64], tail: usize, out: &mut [u8]) -> Answered
+    ensures answers { λ r. ⌜ r ≡ answered (length (now (out .entry))) (answerText question (now (numbers .entry)) tail) ⌝ }
+    ensures text { λ r. ⌜ now (out .exit) ≡ printed (now (out .entry)) (answerText question (now (numbers .entry)) tail) ⌝ }
     ensures short { λ r. ⌜ r .written ≤ length (now (out .entry)) ⌝ }
 {
-    let k = counts::counted(word, numbers);
-    if k != 0 {
-        return fault(k, line, out);
-    }
     if out.len() < ROOM {
         return Answered {
             refusal: refusals::WRONG_LENGTH,
             written: 0,
         };
     }
-    let written = put_answer(word, numbers, out);
+    let written = put_answer(question, numbers, tail, out);
     Answered {
         refusal: 0,
         written: written,
@@ -231,4 +166,32 @@ fn fault(fault: u8, line: u64, out: &mut [u8]) -> Answered
         refusal: 0,
         written: written,
     }
+}
+
+// Answers a question that was read: puts its line at the start of out. The word is given by its code, and the line is the one that it is on; a fault
+// that was found while reading comes with its own line. That the word is none of the questions' comes first.
+pub fn reply(
+    word: u64,
+    line: u64,
+    found: u8,
+    place: u64,
+    numbers: &[i64],
+    out: &mut [u8],
+) -> Answered
+    ensures answers { λ r. ⌜ r ≡ answered (length (now (out .entry))) (replyText word line found place (now (numbers .entry))) ⌝ }
+    ensures text { λ r. ⌜ now (out .exit) ≡ printed (now (out .entry)) (replyText word line found place (now (numbers .entry))) ⌝ }
+    ensures short { λ r. ⌜ r .written ≤ length (now (out .entry)) ⌝ }
+{
+    let row = words::question_of(word);
+    let shape = row.shape;
+    let question = row.question;
+    let places = words::cut(shape, numbers);
+    let k = whole::or_else(row.fault, whole::or_else(found, places.fault));
+    if k == 0 {
+        return answer(question, numbers, places.tail, out);
+    }
+    if (row.fault == 0) & (found != 0) {
+        return fault(k, place, out);
+    }
+    fault(k, line, out)
 }

@@ -6,7 +6,7 @@ ghost use lib.IntN.{pos};
 ghost use lib.ListN.{length, take, drop};
 ghost use Rattle.whole.specs.Choice.{kept};
 ghost use Rattle.text.specs.Text.{put};
-ghost use Rattle.question.specs.Rules.{reply};
+ghost use Rattle.words.specs.Replies.{reply};
 ghost use Rattle.question.specs.Lines.{room, field, fieldsText, lineText, allWords, faultWords, faultText};
 
 // A number after a space.

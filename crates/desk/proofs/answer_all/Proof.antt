@@ -19,8 +19,8 @@ abbrev μ-loop : tie.MeasureT-loop
 loop-holds : tie.Need-loop-holds Inv-loop μ-loop
 loop-holds c = (refl, refl)
 
-read-on-requires : tie.Need-read-on-requires Inv-loop μ-loop
-read-on-requires c κs = tt
+feed-on-requires : tie.Need-feed-on-requires Inv-loop μ-loop
+feed-on-requires c κs = tt
 
 -- a step is left
 some : (c : tie.Then1 Inv-loop μ-loop) → 0 < c .before .before .before .loop .steps
@@ -37,7 +37,7 @@ loop-less c = omega (arith, some (c .before .before .before .before .before .bef
 
 loop-again : tie.Need-loop-again Inv-loop μ-loop
 loop-again c =
-    let k = c .before .before .before .read-on .kept in
+    let k = c .before .before .before .feed-on .kept in
     let i = c .before .before .before .before .before .before .before .before .before .before .loop .inv in
     (omega (arith, k .1 .1 .1 .0, i .0), omega (arith, k .1 .1 .1 .1 .0, i .1))
 
@@ -57,7 +57,7 @@ answer-all-spec =
     Inv-loop
     μ-loop
     loop-holds
-    read-on-requires
+    feed-on-requires
     sub-steps
     loop-less
     loop-again

@@ -1,125 +1,93 @@
--- `question::put_answer` meets its contract: the question of each word is found by computing, and any other has few fields. Assumes nothing.
+-- `question::put_answer` meets its contract: by the family of the question. Assumes nothing.
 use borrow.Author.Needs.{needs}
-use mathlib.Core.Path.{_≡_, refl, ap, _∙_}
-use lib.ListN.{length}
-use Rattle.text.specs.Text.{put}
-use Rattle.question.specs.Lines.{lineText}
-use Rattle.question.specs.Questions.{Question, questions, questionOf, fewOf, textOf}
-use Rattle.question.proofs.Table.{each}
 use Rattle.question.proofs.put_answer.Statement.{statement}
 use Rattle.question.proofs.put_answer.Tie as tie
 
-put-ramp-requires : tie.Need-put-ramp-requires
-put-ramp-requires c κs = search needs
+enum-known-question : tie.Need-enum-known-question
+enum-known-question c = search needs
+
+put-rule-requires : tie.Need-put-rule-requires
+put-rule-requires c κs = search needs
+
+enum-known-question-2 : tie.Need-enum-known-question-2
+enum-known-question-2 c = search needs
+
+put-hour-requires : tie.Need-put-hour-requires
+put-hour-requires c κs = search needs
+
+enum-known-question-3 : tie.Need-enum-known-question-3
+enum-known-question-3 c = search needs
+
+put-run-requires : tie.Need-put-run-requires
+put-run-requires c κs = search needs
+
+enum-known-question-4 : tie.Need-enum-known-question-4
+enum-known-question-4 c = search needs
+
+answer-requires : tie.Need-answer-requires
+answer-requires c κs = search needs
+
+put-frame-requires : tie.Need-put-frame-requires
+put-frame-requires c κs = search needs
+
+enum-told : tie.Need-enum-told
+enum-told c = search needs
+
+put-alone-requires : tie.Need-put-alone-requires
+put-alone-requires c κs = search needs
 
 same-length : tie.Need-same-length
 same-length c = search needs
 
 returns : tie.Need-returns
-unfolding questionOf
-returns c = let p = c .before .before in rw (p .before .before .if1 .taken) (p .put-ramp .ensures)
-
-put-hour-scores-requires : tie.Need-put-hour-scores-requires
-put-hour-scores-requires c κs = search needs
+returns c = rw (c .before .before .before .before .before .question .given .1) (c .before .before .put-rule .ensures)
 
 same-length-2 : tie.Need-same-length-2
 same-length-2 c = search needs
 
 returns-2 : tie.Need-returns-2
-unfolding questionOf
-returns-2 c = let p = c .before .before in rw (p .before .before .if2 .taken) (p .put-hour-scores .ensures)
-
-put-hour-scores-requires-2 : tie.Need-put-hour-scores-requires-2
-put-hour-scores-requires-2 c κs = search needs
+returns-2 c = rw (c .before .before .before .before .before .question2 .given .1) (c .before .before .put-hour .ensures)
 
 same-length-3 : tie.Need-same-length-3
 same-length-3 c = search needs
 
 returns-3 : tie.Need-returns-3
-unfolding questionOf
-returns-3 c = let p = c .before .before in rw (p .before .before .if3 .taken) (p .put-hour-scores2 .ensures)
-
-of-hour-requires : tie.Need-of-hour-requires
-of-hour-requires c κs = search needs
-
-put-frame-requires : tie.Need-put-frame-requires
-put-frame-requires c κs = search needs
+returns-3 c = rw (c .before .before .before .before .before .question3 .given .1) (c .before .before .put-run .ensures)
 
 same-length-4 : tie.Need-same-length-4
 same-length-4 c = search needs
 
 returns-4 : tie.Need-returns-4
-unfolding questionOf
-returns-4 c = let p = c .before .before in let f = p .before .before in rw (f .before .if4 .taken) (rw (f .of-hour .ensures) at (p .put-frame .ensures))
-
-of-hour-requires-2 : tie.Need-of-hour-requires-2
-of-hour-requires-2 c κs = search needs
-
-put-frame-requires-2 : tie.Need-put-frame-requires-2
-put-frame-requires-2 c κs = search needs
+returns-4 c = rw (c .before .before .before .before .before .before .question4 .given .1) (rw (c .before .before .before .before .answer .ensures) at (c .before .before .put-frame .ensures))
 
 same-length-5 : tie.Need-same-length-5
 same-length-5 c = search needs
 
 returns-5 : tie.Need-returns-5
-unfolding questionOf
-returns-5 c = let p = c .before .before in let f = p .before .before in rw (f .before .if5 .taken) (rw (f .of-hour2 .ensures) at (p .put-frame2 .ensures))
-
-asked-requires : tie.Need-asked-requires
-asked-requires c κs = search needs
-
-put-frame-requires-3 : tie.Need-put-frame-requires-3
-put-frame-requires-3 c κs = search needs
-
-same-length-6 : tie.Need-same-length-6
-same-length-6 c = search needs
-
-returns-6 : tie.Need-returns-6
-unfolding questionOf
-returns-6 c = let p = c .before .before in let f = p .before .before in rw (f .before .if6 .taken) (rw (f .asked .ensures) at (p .put-frame3 .ensures))
-
-put-few-requires : tie.Need-put-few-requires
-put-few-requires c κs = search needs
-
-same-length-7 : tie.Need-same-length-7
-same-length-7 c = search needs
-
-returns-7 : tie.Need-returns-7
-unfolding questionOf
-returns-7 c =
-    let p = c .before .before in
-    let l = p .before .before in
-    let a = l .before .before .before .before .before .before .before .args in
-    let n = a .numbers .now in
-    let e = each (λ (q : Question). lineText (fewOf (q .answer) n) ≡ textOf (q .answer) n) (a .word) questions
-    (λ _. refl, (λ _. refl, (λ _. refl, (λ h. absurd (l .before .before .before .before .before .if1 .left h), (λ _. refl, (λ _. refl, (λ _. refl, (λ _. refl, (λ _. refl, (λ _. refl, (λ _. refl, (λ _. refl, (λ _. refl, (λ h. absurd (l .before .before .before .before .if2 .left h), (λ h. absurd (l .before .before .before .if3 .left h), (λ h. absurd (l .before .before .if4 .left h), (λ h. absurd (l .before .if5 .left h), (λ h. absurd (l .if6 .left h), refl)))))))))))))))))) in
-    (p .put-few .ensures .0 ∙ ap length e, (p .put-few .ensures .1 .0 ∙ ap (put (a .out .now) 0) e, p .put-few .ensures .1 .1))
+returns-5 c = rw (c .before .before .before .before .enum-told .given .1) (c .before .before .put-alone .ensures)
 
 pub put-answer-spec : {M : Type 1} → statement M
 put-answer-spec =
     tie.close
     (tie.spec
-    put-ramp-requires
+    enum-known-question
+    put-rule-requires
+    enum-known-question-2
+    put-hour-requires
+    enum-known-question-3
+    put-run-requires
+    enum-known-question-4
+    answer-requires
+    put-frame-requires
+    enum-told
+    put-alone-requires
     same-length
     returns
-    put-hour-scores-requires
     same-length-2
     returns-2
-    put-hour-scores-requires-2
     same-length-3
     returns-3
-    of-hour-requires
-    put-frame-requires
     same-length-4
     returns-4
-    of-hour-requires-2
-    put-frame-requires-2
     same-length-5
-    returns-5
-    asked-requires
-    put-frame-requires-3
-    same-length-6
-    returns-6
-    put-few-requires
-    same-length-7
-    returns-7)
+    returns-5)

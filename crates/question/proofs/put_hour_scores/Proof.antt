@@ -9,11 +9,11 @@ use lib.ListN.{length, take}
 use lib.Seq.{length-take-le}
 use Rattle.hour.specs.declared.Settlement.{Settlement}
 use Rattle.text.specs.Text.{put}
-use Rattle.question.specs.Rules.{Reply, reply}
-use Rattle.question.specs.Hours.{hourAsked, scoresReply}
+use Rattle.words.specs.Replies.{Reply, reply}
+use Rattle.hours.specs.Hours.{hourAsked, scoresReply}
 use Rattle.question.specs.Lines.{lineText}
 use Rattle.question.proofs.Laws.{shown-most, shown-run}
-use Rattle.question.proofs.HourLaws.{scores-left}
+use Rattle.hours.proofs.HourLaws.{scores-left}
 use Rattle.question.proofs.put_hour_scores.Statement.{statement}
 use Rattle.question.proofs.put_hour_scores.Tie as tie
 

@@ -10,7 +10,7 @@ use lib.Seq.{length-take-le}
 use mir.Syntax.{w64}
 use Rattle.whole.proofs.Signed.{back}
 use Rattle.text.specs.Text.{put}
-use Rattle.question.specs.Rules.{Reply, reply}
+use Rattle.words.specs.Replies.{Reply, reply}
 use Rattle.question.specs.Lines.{lineText}
 use Rattle.question.proofs.Laws.{ramp-left, shown-most, shown-run}
 use Rattle.question.proofs.put_ramp.Statement.{statement}

@@ -1,47 +1,42 @@
--- `question::reply` meets its contract: its test is the definition's. Assumes nothing.
-use Prim.Native.Nat.{ℕ}
-use mathlib.Core.Path.{_≡_, sym, ap, _∙_}
-use mathlib.Core.Bool.{Bool, true, false, not, _&&_}
-use mathlib.Core.List.{List}
-use lib.Dec.{eqb}
-use lib.IntN.{ℤ}
+-- `question::reply` meets its contract: the word is looked up, the numbers are cut, and the first fault or the answer is told. Assumes nothing.
+use mathlib.Core.Path.{ap, _∙_}
 use lib.ListN.{length}
+use Rattle.question.specs.Lines.{answered, printed}
+use Rattle.question.proofs.Telling.{right, at-place, at-word}
 use borrow.Author.Needs.{needs}
-use Rattle.question.specs.Lines.{notQuestion, faultText, answered, printed}
-use Rattle.question.specs.Questions.{questionOf, answerText, replyText}
 use Rattle.question.proofs.reply.Statement.{statement}
 use Rattle.question.proofs.reply.Tie as tie
 
-counted-requires : tie.Need-counted-requires
-counted-requires c κs = search needs
+question-of-requires : tie.Need-question-of-requires
+question-of-requires c κs = search needs
 
-fault-requires : tie.Need-fault-requires
-fault-requires c κs = search needs
+cut-requires : tie.Need-cut-requires
+cut-requires c κs = search needs
+
+or-else-requires : tie.Need-or-else-requires
+or-else-requires c κs = search needs
+
+or-else-requires-2 : tie.Need-or-else-requires-2
+or-else-requires-2 c κs = search needs
+
+answer-requires : tie.Need-answer-requires
+answer-requires c κs = search needs
 
 same-length : tie.Need-same-length
 same-length c = search needs
 
--- what is printed where the test passes, and where it fails
-told : (word line found place : ℕ) (n : List ℤ) (k : ℕ) → k ≡ questionOf word .counted n → (not (eqb found 0) && not (eqb k notQuestion)) ≡ true
-    → faultText found place ≡ replyText word line found place n
-unfolding replyText
-told word line found place n k e t = rw (← e, t)
-
-right : (word line found place : ℕ) (n : List ℤ) (k : ℕ) → k ≡ questionOf word .counted n → (not (eqb found 0) && not (eqb k notQuestion)) ≡ false
-    → answerText word line n ≡ replyText word line found place n
-unfolding replyText
-right word line found place n k e t = rw (← e, t)
-
 returns : tie.Need-returns
 returns c =
     let f = c .before .before in
-    let t = f .before .before in
-    let a = t .before .before .before .args in
-    let e = told (a .word) (a .line) (a .found) (a .place) (a .numbers .now) _ (t .before .counted .ensures) (t .if1 .taken) in
-    (f .fault .ensures .0 ∙ ap (answered (length (a .out .now))) e, (f .fault .ensures .1 .0 ∙ ap (printed (a .out .now)) e, f .fault .ensures .1 .1))
+    let t = c .before .before .before .before in
+    let o = c .before .before .before .before .before in
+    let s = o .before .before .before .before .before .before in
+    let a = s .args in
+    let e = right (a .word) (a .line) (a .found) (a .place) (a .numbers .now) _ _ _ _ (o .before .before .before .before .question-of .ensures) (o .before .before .cut .ensures) (o .before .or-else .ensures) (o .or-else2 .ensures) (t .if1 .taken) in
+    (f .answer .ensures .0 ∙ ap (answered (length (a .out .now))) e, (f .answer .ensures .1 .0 ∙ ap (printed (a .out .now)) e, f .answer .ensures .1 .1))
 
-answer-requires : tie.Need-answer-requires
-answer-requires c κs = search needs
+fault-requires : tie.Need-fault-requires
+fault-requires c κs = search needs
 
 same-length-2 : tie.Need-same-length-2
 same-length-2 c = search needs
@@ -49,19 +44,43 @@ same-length-2 c = search needs
 returns-2 : tie.Need-returns-2
 returns-2 c =
     let f = c .before .before in
-    let t = f .before .before in
-    let a = t .before .before .before .args in
-    let e = right (a .word) (a .line) (a .found) (a .place) (a .numbers .now) _ (t .before .counted .ensures) (t .if1 .left) in
-    (f .answer .ensures .0 ∙ ap (answered (length (a .out .now))) e, (f .answer .ensures .1 .0 ∙ ap (printed (a .out .now)) e, f .answer .ensures .1 .1))
+    let t = c .before .before .before .before in
+    let o = c .before .before .before .before .before .before .before in
+    let s = o .before .before .before .before .before .before in
+    let a = s .args in
+    let e = at-place (a .word) (a .line) (a .found) (a .place) (a .numbers .now) _ _ _ _ (o .before .before .before .before .question-of .ensures) (o .before .before .cut .ensures) (o .before .or-else .ensures) (o .or-else2 .ensures) (t .before .before .if1 .left) (t .if2 .taken) in
+    (f .fault .ensures .0 ∙ ap (answered (length (a .out .now))) e, (f .fault .ensures .1 .0 ∙ ap (printed (a .out .now)) e, f .fault .ensures .1 .1))
+
+fault-requires-2 : tie.Need-fault-requires-2
+fault-requires-2 c κs = search needs
+
+same-length-3 : tie.Need-same-length-3
+same-length-3 c = search needs
+
+returns-3 : tie.Need-returns-3
+returns-3 c =
+    let f = c .before .before in
+    let t = c .before .before .before .before in
+    let o = c .before .before .before .before .before .before .before in
+    let s = o .before .before .before .before .before .before in
+    let a = s .args in
+    let e = at-word (a .word) (a .line) (a .found) (a .place) (a .numbers .now) _ _ _ _ (o .before .before .before .before .question-of .ensures) (o .before .before .cut .ensures) (o .before .or-else .ensures) (o .or-else2 .ensures) (t .before .before .if1 .left) (t .if2 .left) in
+    (f .fault2 .ensures .0 ∙ ap (answered (length (a .out .now))) e, (f .fault2 .ensures .1 .0 ∙ ap (printed (a .out .now)) e, f .fault2 .ensures .1 .1))
 
 pub reply-spec : {M : Type 1} → statement M
 reply-spec =
     tie.close
     (tie.spec
-    counted-requires
-    fault-requires
+    question-of-requires
+    cut-requires
+    or-else-requires
+    or-else-requires-2
+    answer-requires
     same-length
     returns
-    answer-requires
+    fault-requires
     same-length-2
-    returns-2)
+    returns-2
+    fault-requires-2
+    same-length-3
+    returns-3)

@@ -1,7 +1,7 @@
 -- `asked::bytes::letter_of` meets its contract. Assumes nothing.
 use borrow.Author.Needs.{needs}
 use borrow.Author.Tests.{le-leb, lt-leb}
-use Rattle.asked.specs.Bytes.{letterOf}
+use Rattle.words.specs.Words.{letterOf}
 use Rattle.asked.proofs.bytes.letter_of.Statement.{statement}
 use Rattle.asked.proofs.bytes.letter_of.Tie as tie
 

@@ -7,7 +7,7 @@ use mathlib.Core.List.{_++_, append-assoc}
 use lib.ListN.{length, take, drop, length-append}
 use Rattle.text.specs.Text.{decimalOf, put}
 use Rattle.text.proofs.Spelling.{length-decimal}
-use Rattle.question.specs.Words.{bytes}
+use Rattle.words.specs.Words.{bytes}
 use Rattle.question.specs.Lines.{faultWords, faultText}
 use Rattle.question.proofs.LineLaws.{begin, more, words-long}
 use Rattle.question.proofs.lines.put_fault.Statement.{statement}

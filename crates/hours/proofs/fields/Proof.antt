@@ -1,0 +1,33 @@
+-- `hours::fields` meets its contract: the settlement, field by field. Assumes nothing.
+use borrow.Author.Needs.{needs}
+use mathlib.Core.Path.{_≡_}
+use mir.Syntax.{w64}
+use mir.Val.{SFits}
+use mir.Facts.{toZ-ofZ}
+use Rattle.hours.specs.Hours.{hourReply}
+use Rattle.hours.proofs.fields.Statement.{statement}
+use Rattle.hours.proofs.fields.Tie as tie
+
+slice-aggregate-settle : tie.Need-slice-aggregate-settle
+slice-aggregate-settle c = search needs
+
+settle-requires : tie.Need-settle-requires
+settle-requires c κs = search needs
+
+cast-t12 : tie.Need-cast-t12
+cast-t12 c = search needs
+
+returns : tie.Need-returns
+unfolding hourReply
+returns c =
+    let r = c .before .before .before .before .before .before .before .before .before .before .before .before .before .settle in
+    let factor : SFits w64 (r .result .factor) = search needs in
+    let capacity : SFits w64 (r .result .capacity .0) = search needs in
+    let performance : SFits w64 (r .result .performance .0) = search needs in
+    let quality : SFits w64 (r .result .quality .0) = search needs in
+    let energy : SFits w64 (r .result .energy .0) = search needs in
+    let amount : SFits w64 (r .result .amount .0) = search needs in
+    rw (toZ-ofZ (cast-t12 (c .before .before .before .before .before .before)), toZ-ofZ factor, toZ-ofZ capacity, toZ-ofZ performance, toZ-ofZ quality, toZ-ofZ energy, toZ-ofZ amount, r .ensures .0)
+
+pub fields-spec : {M : Type 1} → statement M
+fields-spec = tie.close (tie.spec slice-aggregate-settle settle-requires cast-t12 returns)

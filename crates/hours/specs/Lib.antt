@@ -1,0 +1,3 @@
+-- The questions about a whole hour.
+pub mod Numbers
+pub mod Hours

@@ -1,0 +1,3 @@
+-- What the program `desk` does with a chunk, and at the input's end.
+pub mod Replies
+pub mod Transcript

@@ -1,0 +1,3 @@
+-- The questions about one rule.
+pub mod Numbers
+pub mod Rules

@@ -1,0 +1,78 @@
+-- The questions about one rule: each is the answer of the library that has it. Their numbers are given as single ones, in order.
+use Prim.Native.Nat.{ℕ, _/_}
+use mathlib.Core.List.{List, [], _∷_}
+use lib.IntN.{ℤ, pos}
+use lib.ListN.{length, take, drop}
+use Rattle.units.specs.Units.{inKilowatts}
+use Rattle.curve.specs.Curve.{curveAt}
+use Rattle.score.specs.Score.{secondScore}
+use Rattle.score.specs.Rolling.{hourlyRate}
+use Rattle.bands.specs.Bands.{bandsRefusal, factorAnswer}
+use Rattle.fees.specs.Fees.{feeAnswer, qualityAnswer, energyAnswer}
+use Rattle.fees.specs.Loss.{lossAnswer}
+use Rattle.words.specs.Shapes.{number}
+use Rattle.words.specs.Replies.{Reply, reply}
+use Rattle.rules.specs.Numbers.{kilowatts, dollars, byteOf, scoresIn, column}
+use Rattle.words.specs.declared.Rule.{Rule}
+use Rattle.words.specs.declared.Rule.the-variants.{Kilowatts, Curve, Score, Rate, Bands, Factor, Fee, Quality, Energy, Loss}
+
+-- MEGAWATTS: refusal, kilowatts
+unfoldable pub kilowattsReply : List ℤ → Reply
+kilowattsReply n = let a = inKilowatts (record { 0 = number n 0 }) in reply (a .refusal) (a .power .0 ∷ [])
+
+-- FREQUENCY: refusal, upper, lower
+unfoldable pub curveReply : List ℤ → Reply
+curveReply n = let a = curveAt (record { 0 = number n 0 }) in reply (a .refusal) (a .upper ∷ a .lower ∷ [])
+
+-- POWER TRANSFER CAPACITY FREQUENCY: refusal, score
+unfoldable pub scoreReply : List ℤ → Reply
+scoreReply n =
+    let a = secondScore (kilowatts n 0) (kilowatts n 1) (kilowatts n 2) (record { 0 = number n 3 }) in reply (a .refusal) (pos (a .score) ∷ [])
+
+-- 3,600 scores: refusal, rate
+unfoldable pub rateReply : List ℤ → Reply
+rateReply t = let a = hourlyRate (scoresIn t 3600) in reply (a .refusal) (pos (a .rate) ∷ [])
+
+-- how many pairs there are
+abbrev pub pairs : List ℤ → ℕ
+pairs n = length n / 2
+
+-- pairs THRESHOLD FACTOR: refusal
+unfoldable pub bandsReply : List ℤ → Reply
+bandsReply n = reply (bandsRefusal (column n 0 (pairs n)) (column n 1 (pairs n))) []
+
+-- RATE, pairs THRESHOLD FACTOR: refusal, factor
+unfoldable pub factorReply : List ℤ → List ℤ → Reply
+factorReply n t =
+    let a = factorAnswer (column t 0 (pairs t)) (column t 1 (pairs t)) (byteOf (number n 0)) in reply (a .refusal) (a .factor ∷ [])
+
+-- PRICE CAPACITY: refusal, dollars
+unfoldable pub feeReply : List ℤ → Reply
+feeReply n = let a = feeAnswer (number n 0) (kilowatts n 1) in reply (a .refusal) (a .dollars .0 ∷ [])
+
+-- CAPACITY-FEE PERFORMANCE-FEE FACTOR: refusal, dollars
+unfoldable pub qualityReply : List ℤ → Reply
+qualityReply n = let a = qualityAnswer (dollars n 0) (dollars n 1) (number n 2) in reply (a .refusal) (a .dollars .0 ∷ [])
+
+-- DISCHARGE CHARGE, the 4 quarter targets, 3,600 powers: refusal, dollars
+unfoldable pub energyReply : List ℤ → List ℤ → Reply
+energyReply n t = let a = energyAnswer t (take 4 (drop 2 n)) (number n 0) (number n 1) in reply (a .refusal) (a .dollars .0 ∷ [])
+
+-- CHARGED DISCHARGED VOLTAGE COST: refusal, basic, excess, total
+unfoldable pub lossReply : List ℤ → Reply
+lossReply n =
+    let a = lossAnswer (number n 0) (number n 1) (number n 2) (number n 3) in
+    reply (a .refusal) (a .basic .0 ∷ a .excess .0 ∷ a .total .0 ∷ [])
+
+-- the answer to a rule's question, by its single numbers and by those after them
+abbrev pub ruleReply : Rule → List ℤ → List ℤ → Reply
+ruleReply Kilowatts n t = kilowattsReply n
+ruleReply Curve n t = curveReply n
+ruleReply Score n t = scoreReply n
+ruleReply Rate n t = rateReply t
+ruleReply Bands n t = bandsReply t
+ruleReply Factor n t = factorReply n t
+ruleReply Fee n t = feeReply n
+ruleReply Quality n t = qualityReply n
+ruleReply Energy n t = energyReply n t
+ruleReply Loss n t = lossReply n

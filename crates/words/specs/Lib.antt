@@ -1,0 +1,6 @@
+-- The questions: words, faults, the table.
+pub mod Faults
+pub mod Words
+pub mod Questions
+pub mod Shapes
+pub mod Replies
