@@ -5,4 +5,5 @@ pub mod Rounding
 pub mod Folds
 pub mod Runs
 pub mod Sums
+pub mod Refused
 mod Determined
