@@ -17,6 +17,8 @@ use Rattle.board.proofs.replace_in.Reads as replace-in-reads
 use Rattle.board.proofs.replace_in.Kinds as replace-in-kinds
 use Rattle.board.proofs.withdraw_in.Reads as withdraw-in-reads
 use Rattle.board.proofs.withdraw_in.Kinds as withdraw-in-kinds
+use Rattle.board.proofs.check_in.Reads as check-in-reads
+use Rattle.board.proofs.check_in.Kinds as check-in-kinds
 use Rattle.board.proofs.hour_in.Reads as hour-in-reads
 use Rattle.board.proofs.hour_in.Kinds as hour-in-kinds
 
@@ -55,3 +57,6 @@ withdraw-in-items-determined κs a x y s t p q = ap (λ (b : Board Fee Bool ℤ)
 
 hour-in-determined : Determined 1 hour-in-kinds.ps hour-in-kinds.r hour-in-reads.Post
 hour-in-determined κs a x y s t p q = p ∙ sym q
+
+check-in-determined : Determined 1 check-in-kinds.ps check-in-kinds.r check-in-reads.Post
+check-in-determined κs a x y s t p q = p ∙ sym q

@@ -2,14 +2,16 @@
 use Prim.Native.Nat.{ℕ}
 use mathlib.Core.Bool.{Bool, true, false, _&&_}
 use mathlib.Core.List.{List, [], _∷_}
-use lib.Dec.{leb, eqb}
+use lib.Dec.{leb, ltb, eqb}
 use lib.IntN.{ℤ, pos, natAbs}
-use Rattle.whole.specs.Choice.{unless}
+use lib.ListN.{getD}
+use Rattle.whole.specs.Choice.{pick, unless, kept}
+use Rattle.whole.specs.Folds.{allTo}
 use Rattle.whole.specs.Whole.{minus, inRange}
-use Rattle.units.specs.Refusals.{badMoney}
+use Rattle.units.specs.Refusals.{badMoney, notReachable}
 use Rattle.units.specs.declared.Dollars.{Dollars}
-use Rattle.history.specs.Rules.{Call, Rules, placeIn}
-use Rattle.history.specs.Board.{Board, rulingOn, handed}
+use Rattle.history.specs.Rules.{Call, Rules, placeIn, placesOf, rulingAt}
+use Rattle.history.specs.Board.{Board, feesFit, rulingOn, nextOn, lentRefusal}
 use Rattle.board.specs.declared.Head.{Head}
 use Rattle.board.specs.declared.Headed.{Headed}
 use Rattle.board.specs.declared.Told.{Told}
@@ -75,13 +77,32 @@ dollars amount = record { 0 = amount }
 abbrev pub boardIn : Head → List Bool → List ℤ → Board Fee Bool ℤ
 boardIn head filled amounts = record { closed = head .closed; fee = λ _. head .fee .0; marks = filled; items = amounts }
 
--- a call that changes no place, on the head alone
+-- what is asked before the place is looked at: 1, 22, 9, 6, then what the rest says
+abbrev pub frontOf : Head → List Bool → List ℤ → ℕ → ℕ → ℕ → ℕ
+frontOf head filled amounts day hour rest =
+    let R = monthRules (head .days) in
+    lentRefusal R (boardIn head filled amounts) (rulingAt R (head .closed) day hour rest)
+
+-- a call that changes no place, on the head alone: 22 for what the head shows, then the ruling
+abbrev pub headRefusal : Head → Call Fee Item → ℕ
+headRefusal head c =
+    let R = monthRules (head .days) in
+    let b = boardIn head [] [] in
+    unless (feesFit R b) notReachable (rulingOn R b c)
+
 unfoldable pub headedOf : Head → Call Fee Item → Headed
 headedOf head c =
     let b = boardIn head [] [] in
-    let n = handed (monthRules (head .days)) b c in
-    record { refusal = rulingOn (monthRules (head .days)) b c; head = record { days = head .days; closed = n .closed; fee = dollars (n .fee tt) } }
+    let n = kept (headRefusal head c) (nextOn (monthRules (head .days)) b c) b in
+    record { refusal = headRefusal head c; head = record { days = head .days; closed = n .closed; fee = dollars (n .fee tt) } }
 
 -- what a read-out tells
 abbrev pub toldOf : ℕ × ℤ → Told
 toldOf t = record { refusal = t .0; amount = dollars (t .1) }
+
+-- a filled place is one of the month's and holds an amount; an empty one holds 0 (the board's `fitsAt`, at a place's own mark and amount)
+abbrev pub placeFits : ℕ → ℕ → Bool → ℤ → Bool
+placeFits days p filled amount = pick filled (ltb p (placesOf (monthRules days)) && eqb (amountRefusal amount) 0) (eqb (natAbs amount) 0)
+
+abbrev pub placesFit : ℕ → List Bool → List ℤ → Bool
+placesFit days filled amounts = allTo 744 (λ p. placeFits days p (getD filled p false) (getD amounts p (pos 0)))

@@ -1,15 +1,20 @@
-// The month ledger's calls in place, on two lent runs (filled marks and amounts, in dollars) with the head by value. A call works on any runs
-// whatever: what it takes for the ledger is the board of its head and its runs.
+// The month ledger's calls in place, on two lent runs (filled marks and amounts, in dollars) with the head by value. Anything may be lent: a call
+// refuses runs that are not the ledger's by their lengths (1) and a head that no run of calls hands back (22); `check_in` tests the places too.
 ghost use mathlib.Core.Path.{_≡_};
-ghost use mathlib.Core.Bool.{false};
+ghost use mathlib.Core.Bool.{false, _&&_};
+ghost use mathlib.Core.List.{[]};
+ghost use lib.Dec.{eqb};
 ghost use lib.IntN.{pos};
-ghost use lib.ListN.{getD, set};
-ghost use Rattle.whole.specs.Choice.{kept};
-ghost use Rattle.history.specs.Rules.{Call, inside, rulingAt};
-ghost use Rattle.history.specs.Board.{told, rulingOn, handed, hourOn};
-ghost use Rattle.board.specs.Board.{amountItem, amountRefusal, feeRefusal, monthRules, placeOf, dollars, boardIn, headedOf, toldOf};
+ghost use lib.ListN.{length, getD, set};
+ghost use Rattle.whole.specs.Choice.{unless, orElse};
+ghost use Rattle.history.specs.Rules.{Call, inside};
+ghost use Rattle.history.specs.Board.{feesFit, told, ledgerRefusal, refusalIn, leftIn, hourIn};
+ghost use Rattle.board.specs.Board.{amountItem, amountRefusal, feeRefusal, isDays, monthRules, placeOf, dollars, boardIn, frontOf, headedOf, toldOf, placeFits, placesFit};
 use units::Dollars;
 use units::refusals;
+
+// The places of a month of 31 days.
+pub const PLACES: usize = 744;
 
 // An amount's limits, and the largest loss fee.
 pub const LEAST: i64 = -1_000_000_000;
@@ -35,6 +40,12 @@ pub struct Headed {
 pub struct Told {
     pub refusal: u8,
     pub amount: Dollars,
+}
+
+fn is_days(days: u8) -> bool
+    ensures { λ r. ⌜ r ≡ isDays days ⌝ }
+{
+    (28 <= days) & (days <= 31)
 }
 
 fn in_month(days: u8, day: u8, hour: u8) -> bool
@@ -103,39 +114,55 @@ fn write(amounts: &mut [i64], at: usize, amount: Dollars)
     }
 }
 
-// 9, 6, then what the rest says.
-fn ruling_at(head: Head, day: u8, hour: u8, rest: u8) -> u8
-    ensures { λ r. ⌜ r ≡ rulingAt (monthRules (head .days)) (head .closed) day hour rest ⌝ }
+// Whether the two runs are the ledger's, by their lengths.
+fn runs_fit(filled: usize, amounts: usize) -> bool
+    ensures { λ r. ⌜ r ≡ (eqb filled 744 && eqb amounts 744) ⌝ }
 {
-    whole::unless(
-        !head.closed,
-        refusals::MONTH_CLOSED,
-        whole::unless(in_month(head.days, day, hour), refusals::NOT_IN_MONTH, rest),
-    )
+    (filled == PLACES) & (amounts == PLACES)
 }
 
-// Changes what stands at an hour, unless the call is refused.
-fn placing(
-    head: Head,
-    filled: &mut [bool],
-    amounts: &mut [i64],
-    day: u8,
-    hour: u8,
-    rest: u8,
-    fill: bool,
-    amount: Dollars,
-) -> u8
-    ensures number { λ r. ⌜ r ≡ rulingAt (monthRules (head .days)) (head .closed) day hour rest ⌝ }
-    ensures marks { λ r. ⌜ now (filled .exit) ≡ kept (rulingAt (monthRules (head .days)) (head .closed) day hour rest) (set (now (filled .entry)) (placeOf day hour) fill) (now (filled .entry)) ⌝ }
-    ensures items { λ r. ⌜ now (amounts .exit) ≡ kept (rulingAt (monthRules (head .days)) (head .closed) day hour rest) (set (now (amounts .entry)) (placeOf day hour) (amount .0)) (now (amounts .entry)) ⌝ }
+// What a head shows of refusal 22: its days and its fee.
+fn head_fits(head: Head) -> bool
+    ensures { λ r. ⌜ r ≡ feesFit (monthRules (head .days)) (boardIn head [] []) ⌝ }
 {
-    let k = ruling_at(head, day, hour, rest);
-    if k == 0 {
-        let at = place_of(day, hour);
-        mark(filled, at, fill);
-        write(amounts, at, amount);
+    let fee = head.fee;
+    is_days(head.days) & (fee_refusal(fee) == 0)
+}
+
+// 1, 22, 9, 6: what is asked before the place is looked at.
+fn front(head: Head, filled: &[bool], amounts: &[i64], day: u8, hour: u8) -> u8
+    ensures { λ r. ⌜ r ≡ frontOf head (now (filled .entry)) (now (amounts .entry)) day hour 0 ⌝ }
+{
+    if !runs_fit(filled.len(), amounts.len()) {
+        return refusals::WRONG_LENGTH;
     }
-    k
+    if !head_fits(head) {
+        return refusals::NOT_REACHABLE;
+    }
+    if head.closed {
+        return refusals::MONTH_CLOSED;
+    }
+    if !in_month(head.days, day, hour) {
+        return refusals::NOT_IN_MONTH;
+    }
+    0
+}
+
+// 3, then what the place says: whether it is as the call needs it.
+fn rest(amount: Dollars, fits: bool, number: u8) -> u8
+    ensures { λ r. ⌜ r ≡ orElse (amountRefusal (amount .0)) (unless fits number 0) ⌝ }
+{
+    let place = whole::unless(fits, number, 0);
+    whole::or_else(amount_refusal(amount), place)
+}
+
+// Puts a mark and an amount at a place.
+fn put(filled: &mut [bool], amounts: &mut [i64], at: usize, fill: bool, amount: Dollars)
+    ensures marks { λ r. ⌜ now (filled .exit) ≡ set (now (filled .entry)) at fill ⌝ }
+    ensures items { λ r. ⌜ now (amounts .exit) ≡ set (now (amounts .entry)) at (amount .0) ⌝ }
+{
+    mark(filled, at, fill);
+    write(amounts, at, amount);
 }
 
 // Post in place.
@@ -147,13 +174,21 @@ pub fn post_in(
     hour: u8,
     amount: Dollars,
 ) -> u8
-    ensures answers { λ r. ⌜ r ≡ rulingOn (monthRules (head .days)) (boardIn head (now (filled .entry)) (now (amounts .entry))) (Call.post day hour (amountItem (amount .0))) ⌝ }
-    ensures leaves { λ r. ⌜ boardIn head (now (filled .exit)) (now (amounts .exit)) ≡ handed (monthRules (head .days)) (boardIn head (now (filled .entry)) (now (amounts .entry))) (Call.post day hour (amountItem (amount .0))) ⌝ }
+    ensures answers { λ r. ⌜ r ≡ refusalIn (monthRules (head .days)) (boardIn head (now (filled .entry)) (now (amounts .entry))) (Call.post day hour (amountItem (amount .0))) ⌝ }
+    ensures leaves { λ r. ⌜ boardIn head (now (filled .exit)) (now (amounts .exit)) ≡ leftIn (monthRules (head .days)) (boardIn head (now (filled .entry)) (now (amounts .entry))) (Call.post day hour (amountItem (amount .0))) ⌝ }
 {
-    let taken = filled_at(filled, place_of(day, hour));
-    let place = whole::unless(!taken, refusals::PLACE_FILLED, 0);
-    let rest = whole::or_else(amount_refusal(amount), place);
-    placing(head, filled, amounts, day, hour, rest, true, amount)
+    let k = front(head, filled, amounts, day, hour);
+    if k != 0 {
+        return k;
+    }
+    let at = place_of(day, hour);
+    let taken = filled_at(filled, at);
+    let n = rest(amount, !taken, refusals::PLACE_FILLED);
+    if n != 0 {
+        return n;
+    }
+    put(filled, amounts, at, true, amount);
+    0
 }
 
 // Replace in place.
@@ -165,30 +200,46 @@ pub fn replace_in(
     hour: u8,
     amount: Dollars,
 ) -> u8
-    ensures answers { λ r. ⌜ r ≡ rulingOn (monthRules (head .days)) (boardIn head (now (filled .entry)) (now (amounts .entry))) (Call.replace day hour (amountItem (amount .0))) ⌝ }
-    ensures leaves { λ r. ⌜ boardIn head (now (filled .exit)) (now (amounts .exit)) ≡ handed (monthRules (head .days)) (boardIn head (now (filled .entry)) (now (amounts .entry))) (Call.replace day hour (amountItem (amount .0))) ⌝ }
+    ensures answers { λ r. ⌜ r ≡ refusalIn (monthRules (head .days)) (boardIn head (now (filled .entry)) (now (amounts .entry))) (Call.replace day hour (amountItem (amount .0))) ⌝ }
+    ensures leaves { λ r. ⌜ boardIn head (now (filled .exit)) (now (amounts .exit)) ≡ leftIn (monthRules (head .days)) (boardIn head (now (filled .entry)) (now (amounts .entry))) (Call.replace day hour (amountItem (amount .0))) ⌝ }
 {
-    let taken = filled_at(filled, place_of(day, hour));
-    let place = whole::unless(taken, refusals::PLACE_EMPTY, 0);
-    let rest = whole::or_else(amount_refusal(amount), place);
-    placing(head, filled, amounts, day, hour, rest, true, amount)
+    let k = front(head, filled, amounts, day, hour);
+    if k != 0 {
+        return k;
+    }
+    let at = place_of(day, hour);
+    let taken = filled_at(filled, at);
+    let n = rest(amount, taken, refusals::PLACE_EMPTY);
+    if n != 0 {
+        return n;
+    }
+    put(filled, amounts, at, true, amount);
+    0
 }
 
 // Withdraw in place.
 pub fn withdraw_in(head: Head, filled: &mut [bool], amounts: &mut [i64], day: u8, hour: u8) -> u8
-    ensures answers { λ r. ⌜ r ≡ rulingOn (monthRules (head .days)) (boardIn head (now (filled .entry)) (now (amounts .entry))) (Call.withdraw day hour) ⌝ }
-    ensures leaves { λ r. ⌜ boardIn head (now (filled .exit)) (now (amounts .exit)) ≡ handed (monthRules (head .days)) (boardIn head (now (filled .entry)) (now (amounts .entry))) (Call.withdraw day hour) ⌝ }
+    ensures answers { λ r. ⌜ r ≡ refusalIn (monthRules (head .days)) (boardIn head (now (filled .entry)) (now (amounts .entry))) (Call.withdraw day hour) ⌝ }
+    ensures leaves { λ r. ⌜ boardIn head (now (filled .exit)) (now (amounts .exit)) ≡ leftIn (monthRules (head .days)) (boardIn head (now (filled .entry)) (now (amounts .entry))) (Call.withdraw day hour) ⌝ }
 {
-    let taken = filled_at(filled, place_of(day, hour));
-    let rest = whole::unless(taken, refusals::PLACE_EMPTY, 0);
-    placing(head, filled, amounts, day, hour, rest, false, Dollars(0))
+    let k = front(head, filled, amounts, day, hour);
+    if k != 0 {
+        return k;
+    }
+    let at = place_of(day, hour);
+    if !filled_at(filled, at) {
+        return refusals::PLACE_EMPTY;
+    }
+    put(filled, amounts, at, false, Dollars(0));
+    0
 }
 
 // Sets the loss fee, in place: no place is touched.
 pub fn loss_fee_in(head: Head, amount: Dollars) -> Headed
     ensures { λ r. ⌜ r ≡ headedOf head (Call.lossFee tt (amount .0)) ⌝ }
 {
-    let k = whole::unless(!head.closed, refusals::MONTH_CLOSED, fee_refusal(amount));
+    let open = whole::unless(!head.closed, refusals::MONTH_CLOSED, fee_refusal(amount));
+    let k = whole::unless(head_fits(head), refusals::NOT_REACHABLE, open);
     if k == 0 {
         let next = Head {
             days: head.days,
@@ -210,16 +261,67 @@ pub fn loss_fee_in(head: Head, amount: Dollars) -> Headed
 pub fn close_in(head: Head) -> Headed
     ensures { λ r. ⌜ r ≡ headedOf head Call.close ⌝ }
 {
-    let fee = head.fee;
-    let next = Head {
-        days: head.days,
-        closed: true,
-        fee: fee,
-    };
-    Headed {
-        refusal: whole::unless(!head.closed, refusals::MONTH_CLOSED, 0),
-        head: next,
+    let open = whole::unless(!head.closed, refusals::MONTH_CLOSED, 0);
+    let k = whole::unless(head_fits(head), refusals::NOT_REACHABLE, open);
+    if k == 0 {
+        let fee = head.fee;
+        let next = Head {
+            days: head.days,
+            closed: true,
+            fee: fee,
+        };
+        return Headed {
+            refusal: k,
+            head: next,
+        };
     }
+    Headed {
+        refusal: k,
+        head: head,
+    }
+}
+
+// Whether a place of the month that is filled has an amount in the range, and any other place is empty with 0.
+fn place_fits(days: u8, p: usize, filled: bool, amount: Dollars) -> bool
+    ensures { λ r. ⌜ r ≡ placeFits days p filled (amount .0) ⌝ }
+{
+    let a = amount.0;
+    if filled {
+        (p < days as usize * 24) & whole::within(a, LEAST, MOST)
+    } else {
+        a == 0
+    }
+}
+
+fn places_fit(days: u8, filled: &[bool], amounts: &[i64]) -> bool
+    requires { ⌜ (length (now filled) ≡ 744) × (length (now amounts) ≡ 744) ⌝ }
+    ensures { λ r. ⌜ r ≡ placesFit days (now (filled .entry)) (now (amounts .entry)) ⌝ }
+{
+    let mut p = 0;
+    while p < PLACES {
+        let a = amounts[p];
+        if !place_fits(days, p, filled[p], Dollars(a)) {
+            return false;
+        }
+        p += 1;
+    }
+    true
+}
+
+// Whether some run of calls from a fresh month hands this ledger back: 1, 22, or 0 where one does.
+pub fn check_in<'a>(head: Head, filled: &'a [bool], amounts: &'a [i64]) -> u8
+    ensures { λ r. ⌜ r ≡ ledgerRefusal (monthRules (head .days)) (boardIn head (now (filled .entry)) (now (amounts .entry))) ⌝ }
+{
+    if !runs_fit(filled.len(), amounts.len()) {
+        return refusals::WRONG_LENGTH;
+    }
+    if !head_fits(head) {
+        return refusals::NOT_REACHABLE;
+    }
+    if !places_fit(head.days, filled, amounts) {
+        return refusals::NOT_REACHABLE;
+    }
+    0
 }
 
 // A read-out's answer: a refusal has the amount 0.
@@ -240,14 +342,17 @@ fn answer(k: u8, amount: Dollars) -> Told
 
 // One hour's amount, in place.
 pub fn hour_in<'a>(head: Head, filled: &'a [bool], amounts: &'a [i64], day: u8, hour: u8) -> Told
-    ensures { λ r. ⌜ r ≡ toldOf (hourOn (monthRules (head .days)) (boardIn head (now (filled .entry)) (now (amounts .entry))) day hour) ⌝ }
+    ensures { λ r. ⌜ r ≡ toldOf (hourIn (monthRules (head .days)) (boardIn head (now (filled .entry)) (now (amounts .entry))) day hour) ⌝ }
 {
     let here = place_of(day, hour);
     let place = whole::unless(filled_at(filled, here), refusals::PLACE_EMPTY, 0);
-    let k = whole::unless(
+    let inside = whole::unless(
         in_month(head.days, day, hour),
         refusals::NOT_IN_MONTH,
         place,
     );
+    let seen = whole::unless(head_fits(head), refusals::NOT_REACHABLE, inside);
+    let runs = runs_fit(filled.len(), amounts.len());
+    let k = whole::unless(runs, refusals::WRONG_LENGTH, seen);
     answer(k, amount_at(amounts, here))
 }

@@ -11,12 +11,12 @@ use lib.IntN.{ℤ, pos}
 use lib.ListN.{length, getD, set, replicate, length-set, length-replicate, List·getD-eq-default}
 use lib.Seq.{getD-set-same, getD-set-other}
 use borrow.Author.Tests.{leb-true, le-leb, ltb-true, ltb-false, lt-ltb, le-ltb, eqb-true, eqb-false, eq-eqb}
-use Rattle.whole.specs.Choice.{pick}
+use Rattle.whole.specs.Choice.{pick, kept}
 use Rattle.whole.specs.Folds.{foldTo}
-use Rattle.whole.proofs.Choice.{both, and-both, clash, by-test}
+use Rattle.whole.proofs.Choice.{both, and-both, clash, by-test, passed}
 use Rattle.whole.proofs.Folds.{all-at, all-of, fold-same, fold-tail}
-use Rattle.history.specs.Rules.{Rules, Sound, hoursTo, isAmong, inside, placeIn, placesOf}
-use Rattle.history.specs.Board.{Board, markAt, itemAt, fitsAt, feesFit, wellFormed, fresh, placed}
+use Rattle.history.specs.Rules.{Call, Rules, Sound, hoursTo, isAmong, inside, placeIn, placesOf}
+use Rattle.history.specs.Board.{Board, markAt, itemAt, fitsAt, feesFit, wellFormed, fresh, placed, rulingOn, nextOn, handed, runsFit, ledgerRefusal, lentRefusal, refusalIn, leftIn}
 use Rattle.history.specs.History.{readAs}
 use Rattle.history.proofs.Days.{place-below, place-same, fold-hours}
 
@@ -110,6 +110,11 @@ empty-if : {A : Type 0} (m t ok blank : Bool) (a : A) → t ≡ false → pick m
 empty-if false t ok blank a e h = refl
 empty-if true t ok blank a e h = clash (ap (λ u. u && ok) (sym e) ∙ h)
 
+-- on runs that are the ledger's, the test in place is that of 22
+pub ledger-test : {F M B : Type 0} (R : Rules F M B) (b : Board F M B) → runsFit R b ≡ true → eqb (ledgerRefusal R b) 0 ≡ wellFormed R b
+unfolding ledgerRefusal
+ledger-test R b runs = by-test (wellFormed R b) (λ (w : wellFormed R b ≡ true). rw (runs, w)) (λ (w : wellFormed R b ≡ false). rw (runs, w))
+
 module _ {F M B : Type 0} (R : Rules F M B) (sound : Sound R) where
   pub well-good : (b : Board F M B) → wellFormed R b ≡ true → length (b .marks) ≡ R .places → length (b .items) ≡ R .places → Good R b
   unfolding wellFormed
@@ -129,6 +134,38 @@ module _ {F M B : Type 0} (R : Rules F M B) (sound : Sound R) where
   pub good-well : (b : Board F M B) → Good R b → wellFormed R b ≡ true
   unfolding wellFormed
   good-well b g = both (every-of (λ f. eqb (R .checkFee f (b .fee f)) 0) (R .fees) (R .opens) (sound .opens) (λ f. eq-eqb _ 0 (g .fee-fits f))) (all-of (R .places) (fitsAt R b) (g .each))
+
+  -- what a call in place tests of a board in form lets it through
+  pub good-fees : (b : Board F M B) → Good R b → feesFit R b ≡ true
+  unfolding wellFormed
+  good-fees b g = and-both (feesFit R b) _ (good-well b g) .0
+
+  pub good-runs : (b : Board F M B) → Good R b → runsFit R b ≡ true
+  good-runs b g = both (eq-eqb _ _ (g .marks-long)) (eq-eqb _ _ (g .items-long))
+
+  pub good-lent : (b : Board F M B) → Good R b → (rest : ℕ) → lentRefusal R b rest ≡ rest
+  good-lent b g rest = rw (good-runs b g, good-fees b g)
+
+  pub good-refusal : (b : Board F M B) → Good R b → (c : Call F (M × B)) → refusalIn R b c ≡ rulingOn R b c
+  unfolding refusalIn
+  good-refusal b g c = good-lent b g (rulingOn R b c)
+
+  pub good-left : (b : Board F M B) → Good R b → (c : Call F (M × B)) → leftIn R b c ≡ handed R b c
+  unfolding leftIn handed
+  good-left b g c = ap (λ k. kept k (nextOn R b c) b) (good-refusal b g c)
+
+  pub good-ledger : (b : Board F M B) → Good R b → ledgerRefusal R b ≡ 0
+  unfolding ledgerRefusal
+  good-ledger b g = rw (good-runs b g, good-well b g)
+
+  -- and a ledger in place that is not refused is one in form
+  pub ledger-good : (b : Board F M B) → ledgerRefusal R b ≡ 0 → Good R b
+  unfolding ledgerRefusal
+  ledger-good b e =
+      let a = passed (runsFit R b) 0 _ e in
+      let w = passed (wellFormed R b) 21 0 (a .1) in
+      let l = and-both (eqb (length (b .marks)) (R .places)) (eqb (length (b .items)) (R .places)) (a .0) in
+      well-good b (w .0) (eqb-true _ _ (l .0)) (eqb-true _ _ (l .1))
 
   fresh-item : (p : ℕ) → itemAt R (fresh R) p ≡ R .blank
   unfolding fresh

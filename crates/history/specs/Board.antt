@@ -5,10 +5,10 @@ use mathlib.Core.Bool.{Bool, true, false, _&&_}
 use mathlib.Core.List.{List, [], _∷_, foldl}
 use lib.Dec.{leb, ltb, eqb}
 use lib.IntN.{ℤ, pos, _-ℤ_}
-use lib.ListN.{getD, set, replicate}
+use lib.ListN.{length, getD, set, replicate}
 use Rattle.whole.specs.Choice.{pick, unless, kept}
 use Rattle.whole.specs.Folds.{sumTo, countTo, allTo}
-use Rattle.units.specs.Refusals.{notReachable, notInMonth, placeEmpty}
+use Rattle.units.specs.Refusals.{wrongLength, notReachable, notInMonth, placeEmpty}
 use Rattle.history.specs.Rules.{Call, post, replace, withdraw, lossFee, close, Rules, inside, placeIn, placesOf, ruling}
 
 pub record Board (F M B : Type 0) : Type 0 where
@@ -72,9 +72,11 @@ module _ {F M B : Type 0} (R : Rules F M B) where
   -- ---- the read-outs, 22 left aside
 
   -- one hour: 6, 8
+  abbrev pub hourRefusal : Board F M B → ℕ → ℕ → ℕ
+  hourRefusal b day hour = unless (inside R day hour) notInMonth (unless (filledAt b day hour) placeEmpty 0)
+
   unfoldable pub hourOn : Board F M B → ℕ → ℕ → ℕ × ℤ
-  hourOn b day hour =
-      told (unless (inside R day hour) notInMonth (unless (filledAt b day hour) placeEmpty 0)) (R .worth (itemAt b (placeIn R day hour)))
+  hourOn b day hour = told (hourRefusal b day hour) (R .worth (itemAt b (placeIn R day hour)))
 
   -- a day's sum: 6
   unfoldable pub dayOn : Board F M B → ℕ → ℕ × ℤ
@@ -109,6 +111,30 @@ module _ {F M B : Type 0} (R : Rules F M B) where
   -- a read-out's answer; a refusal has nothing beside it
   abbrev pub orReachable : {X : Type 0} → X → Board F M B → ℕ × X → ℕ × X
   orReachable nothing b t = pick (wellFormed b) t (notReachable, nothing)
+
+  -- ---- in place, on two lent runs: 1 where a run is not as long as the ledger's places, then 22
+
+  abbrev pub runsFit : Board F M B → Bool
+  runsFit b = eqb (length (b .marks)) (R .places) && eqb (length (b .items)) (R .places)
+
+  -- whether a ledger in place is one that runs of calls hand back: 1, 22
+  unfoldable pub ledgerRefusal : Board F M B → ℕ
+  ledgerRefusal b = unless (runsFit b) wrongLength (unless (wellFormed b) notReachable 0)
+
+  -- a single call looks at no place but its own: of 22 it tests what stands beside the places
+  abbrev pub lentRefusal : Board F M B → ℕ → ℕ
+  lentRefusal b rest = unless (runsFit b) wrongLength (unless (feesFit b) notReachable rest)
+
+  -- what a call in place answers and leaves: 1, 22, then the ruling; a refusal leaves the board as it was
+  unfoldable pub refusalIn : Board F M B → Call F (M × B) → ℕ
+  refusalIn b c = lentRefusal b (rulingOn b c)
+
+  unfoldable pub leftIn : Board F M B → Call F (M × B) → Board F M B
+  leftIn b c = kept (refusalIn b c) (nextOn b c) b
+
+  -- one hour in place: 1, 22, 6, 8
+  unfoldable pub hourIn : Board F M B → ℕ → ℕ → ℕ × ℤ
+  hourIn b day hour = told (lentRefusal b (hourRefusal b day hour)) (R .worth (itemAt b (placeIn R day hour)))
 
   -- ---- a board as posts: its standing hours in order of day and hour, newest first (#111)
 

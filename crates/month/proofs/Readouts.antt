@@ -10,21 +10,24 @@ use borrow.Author.Tests.{leb-true}
 use Rattle.whole.specs.Folds.{sumTo}
 use Rattle.whole.proofs.Choice.{and-both}
 use Rattle.units.specs.Refusals.{notReachable, notInMonth}
-use Rattle.history.specs.Board.{wellFormed, hourOn, dayOn, totalOn}
+use Rattle.history.specs.Board.{wellFormed, hourOn, hourIn, dayOn, totalOn}
+use Rattle.history.proofs.Board.{Good, good-runs, good-fees}
 use Rattle.history.proofs.Days.{hours-even}
 use Rattle.board.specs.Board.{toldOf}
 use Rattle.month.specs.Month.{rulesOf, boardOf, readOut, hourOf, dayOf, totalOf}
 use Rattle.month.specs.declared.Month.{Month}
-use Rattle.month.proofs.Sound.{most-days, well-days}
+use Rattle.month.proofs.Sound.{most-days, month-sound, well-days}
 
 -- 22
 pub told-22 : (m : Month) (t : ℕ × ℤ) → wellFormed (rulesOf m) (boardOf m) ≡ false → toldOf (notReachable, pos 0) ≡ readOut m t
 told-22 m t w = rw w
 
 module _ (m : Month) (w : wellFormed (rulesOf m) (boardOf m) ≡ true) where
-  pub hour-told : (d x : ℕ) → toldOf (hourOn (rulesOf m) (boardOf m) d x) ≡ hourOf m d x
-  unfolding hourOf
-  hour-told d x = rw w
+  -- one hour in place
+  pub hour-told : Good (rulesOf m) (boardOf m) → (d x : ℕ) → toldOf (hourIn (rulesOf m) (boardOf m) d x) ≡ hourOf m d x
+  unfolding hourOf hourOn hourIn
+  hour-told g d x =
+      rw (w, good-runs (rulesOf m) (month-sound (m .days) (well-days m w)) (boardOf m) g, good-fees (rulesOf m) (month-sound (m .days) (well-days m w)) (boardOf m) g)
 
   pub total-told : toldOf (0, sumTo 744 (λ p. getD (m .amounts) p (pos 0)) -ℤ m .fee .0) ≡ totalOf m
   unfolding totalOf totalOn

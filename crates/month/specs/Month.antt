@@ -1,30 +1,19 @@
 -- The month ledger (document 01, "The ledger"): what each call and read-out on a month by value answers, as an instance of the theory of any ledger.
 use Prim.Native.Nat.{ℕ}
-use mathlib.Core.Bool.{Bool, false, _&&_}
+use mathlib.Core.Bool.{Bool, false}
 use mathlib.Core.List.{List}
-use lib.Dec.{ltb, eqb}
-use lib.IntN.{ℤ, pos, natAbs}
-use lib.ListN.{getD, replicate}
+use lib.IntN.{ℤ, pos}
+use lib.ListN.{replicate}
 use Rattle.whole.specs.Choice.{pick, unless}
-use Rattle.whole.specs.Folds.{allTo}
 use Rattle.units.specs.Refusals.{notInMonth}
-use Rattle.history.specs.Rules.{Call, Rules, placesOf}
+use Rattle.history.specs.Rules.{Call, Rules}
 use Rattle.history.specs.Board.{Board, refusalOf, nextOf, orReachable, hourOn, dayOn, totalOn, hoursOn}
-use Rattle.board.specs.Board.{Fee, Item, isDays, amountRefusal, monthRules, dollars, toldOf}
+use Rattle.board.specs.Board.{Fee, Item, isDays, monthRules, dollars, toldOf}
 use Rattle.board.specs.declared.Head.{Head}
 use Rattle.board.specs.declared.Told.{Told}
 use Rattle.month.specs.declared.Month.{Month}
 use Rattle.month.specs.declared.Booked.{Booked}
 use Rattle.month.specs.declared.Counted.{Counted}
-
--- ---- a place in form
-
--- a filled place is one of the month's and holds an amount; an empty one holds 0 (the board's `fitsAt`, at a place's own mark and amount)
-abbrev pub placeFits : ℕ → ℕ → Bool → ℤ → Bool
-placeFits days p filled amount = pick filled (ltb p (placesOf (monthRules days)) && eqb (amountRefusal amount) 0) (eqb (natAbs amount) 0)
-
-abbrev pub placesFit : ℕ → List Bool → List ℤ → Bool
-placesFit days filled amounts = allTo 744 (λ p. placeFits days p (getD filled p false) (getD amounts p (pos 0)))
 
 -- ---- the ledger as a board
 

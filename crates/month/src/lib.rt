@@ -14,7 +14,7 @@ ghost use Rattle.history.specs.Rules.{Call};
 ghost use Rattle.history.specs.Board.{wellFormed};
 ghost use Rattle.units.specs.Refusals.{notReachable};
 ghost use Rattle.board.specs.Board.{amountItem, isDays, dollars, toldOf};
-ghost use Rattle.month.specs.Month.{placeFits, placesFit, headOf, bookedOf, rulesOf, boardOf, freshMonth, openOf, answerOf, hourOf, dayOf, totalOf, standingOf};
+ghost use Rattle.month.specs.Month.{headOf, bookedOf, rulesOf, boardOf, freshMonth, openOf, answerOf, hourOf, dayOf, totalOf, standingOf};
 use board::Head;
 use board::Told;
 use units::Dollars;
@@ -44,36 +44,6 @@ fn is_days(days: u8) -> bool
     ensures { λ r. ⌜ r ≡ isDays days ⌝ }
 {
     (28 <= days) & (days <= 31)
-}
-
-// Whether a place of the month that is filled has an amount in the range, and any other place is empty with 0.
-fn place_fits(days: u8, p: usize, filled: bool, amount: Dollars) -> bool
-    ensures { λ r. ⌜ r ≡ placeFits days p filled (amount .0) ⌝ }
-{
-    let a = amount.0;
-    if filled {
-        (p < days as usize * 24) & whole::within(a, Month::LEAST, Month::MOST)
-    } else {
-        a == 0
-    }
-}
-
-fn places_fit<'a>(
-    days: u8,
-    filled: &'a [bool; Month::PLACES],
-    amounts: &'a [i64; Month::PLACES],
-) -> bool
-    ensures { λ r. ⌜ r ≡ placesFit days (now (filled .entry)) (now (amounts .entry)) ⌝ }
-{
-    let mut p = 0;
-    while p < Month::PLACES {
-        let a = amounts[p];
-        if !place_fits(days, p, filled[p], Dollars(a)) {
-            return false;
-        }
-        p += 1;
-    }
-    true
 }
 
 fn standing_in(filled: &[bool; Month::PLACES]) -> usize
@@ -139,7 +109,7 @@ fn refused(k: u8) -> Told
 }
 
 impl Month {
-    pub const PLACES: usize = 744;
+    pub const PLACES: usize = board::PLACES;
 
     pub const LEAST: i64 = board::LEAST;
 
@@ -164,12 +134,8 @@ impl Month {
     fn well_formed(self) -> bool
         ensures { λ r. ⌜ r ≡ wellFormed (rulesOf self) (boardOf self) ⌝ }
     {
-        let days = self.days;
-        let fee = self.fee;
-        let f = fee.0;
-        is_days(days)
-            & whole::within(f, 0, Month::FEE)
-            & places_fit(days, &self.filled, &self.amounts)
+        let head = self.head();
+        board::check_in(head, &self.filled, &self.amounts) == 0
     }
 
     fn head(self) -> Head

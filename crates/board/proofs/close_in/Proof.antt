@@ -1,14 +1,9 @@
--- `board::close_in` meets its contract: a closed month is handed back as it is. By the mark. Assumes nothing.
-use mathlib.Core.Path.{_≡_, refl, ap, _∙_}
-use mathlib.Core.Bool.{Bool, true, false, not}
-use Rattle.whole.specs.Choice.{unless}
-use Rattle.units.specs.Refusals.{monthClosed}
+-- `board::close_in` meets its contract: by its number. Assumes nothing.
+use mathlib.Core.Path.{_≡_, sym, _∙_}
+use borrow.Author.Tests.{eq-eqb, ne-eqb}
 use Rattle.history.specs.Rules.{Call}
-use Rattle.history.specs.Board.{rulingOn, nextOn, handed}
-use Rattle.board.specs.Board.{headedOf}
-use Rattle.board.specs.declared.Head.{Head}
-use Rattle.board.specs.declared.Headed.{Headed}
-use Prim.Native.Nat.{ℕ}
+use Rattle.history.specs.Board.{rulingOn, nextOn}
+use Rattle.board.specs.Board.{headRefusal, headedOf}
 use borrow.Author.Needs.{needs}
 use Rattle.board.proofs.close_in.Statement.{statement}
 use Rattle.board.proofs.close_in.Tie as tie
@@ -16,20 +11,23 @@ use Rattle.board.proofs.close_in.Tie as tie
 unless-requires : tie.Need-unless-requires
 unless-requires c κs = search needs
 
-closed-by : ℕ → Head → Headed
-closed-by k head = record { refusal = k; head = record { days = head .days; closed = true; fee = head .fee } }
+head-fits-requires : tie.Need-head-fits-requires
+head-fits-requires c κs = search needs
 
-closes : (head : Head) → closed-by (unless (not (head .closed)) monthClosed 0) head ≡ headedOf head Call.close
-unfolding closed-by headedOf rulingOn nextOn handed
-closes head = go (head .closed) refl
-  where
-    go : (t : Bool) → head .closed ≡ t → closed-by (unless (not (head .closed)) monthClosed 0) head ≡ headedOf head Call.close
-    go true e = rw e
-    go false e = rw e
+unless-requires-2 : tie.Need-unless-requires-2
+unless-requires-2 c κs = search needs
+
+number : (c : tie.After-unless2) → let a = c .before .before .before .before .args in c .unless2 .result ≡ headRefusal (a .head) Call.close
+unfolding rulingOn
+number c = let h = c .before in simp (h .head-fits .ensures, h .before .unless .ensures) at (c .unless2 .ensures)
 
 returns : tie.Need-returns
-unfolding closed-by
-returns c = let head = c .before .before .before .args .head in ap (λ (k : ℕ). closed-by k head) (c .unless .ensures) ∙ closes head
+unfolding headedOf rulingOn nextOn
+returns c = let n = number (c .before .before) in rw (n, eq-eqb _ 0 (sym n ∙ c .before .if1 .taken))
+
+returns-2 : tie.Need-returns-2
+unfolding headedOf rulingOn nextOn
+returns-2 c = let n = number (c .before) in rw (n, ne-eqb _ 0 (λ z. c .if1 .left (n ∙ z)))
 
 pub close-in-spec : {M : Type 1} → statement M
-close-in-spec = tie.close (tie.spec unless-requires returns)
+close-in-spec = tie.close (tie.spec unless-requires head-fits-requires unless-requires-2 returns returns-2)

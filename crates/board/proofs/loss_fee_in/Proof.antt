@@ -1,11 +1,9 @@
--- `board::loss_fee_in` meets its contract: by its one test. Assumes nothing.
+-- `board::loss_fee_in` meets its contract: by its number. Assumes nothing.
 use mathlib.Core.Path.{_≡_, sym, _∙_}
-use mathlib.Core.Bool.{not}
 use borrow.Author.Tests.{eq-eqb, ne-eqb}
-use Rattle.whole.specs.Choice.{unless}
-use Rattle.units.specs.Refusals.{monthClosed}
-use Rattle.history.specs.Board.{rulingOn, nextOn, handed}
-use Rattle.board.specs.Board.{feeRefusal, headedOf}
+use Rattle.history.specs.Rules.{Call}
+use Rattle.history.specs.Board.{rulingOn, nextOn}
+use Rattle.board.specs.Board.{headRefusal, headedOf}
 use borrow.Author.Needs.{needs}
 use Rattle.board.proofs.loss_fee_in.Statement.{statement}
 use Rattle.board.proofs.loss_fee_in.Tie as tie
@@ -16,16 +14,34 @@ fee-refusal-requires c κs = search needs
 unless-requires : tie.Need-unless-requires
 unless-requires c κs = search needs
 
-number : (c : tie.After-unless) → let a = c .before .before .before .args in c .unless .result ≡ unless (not (a .head .closed)) monthClosed (feeRefusal (a .amount .0))
-number c = simp (c .before .fee-refusal .ensures) at (c .unless .ensures)
+head-fits-requires : tie.Need-head-fits-requires
+head-fits-requires c κs = search needs
+
+unless-requires-2 : tie.Need-unless-requires-2
+unless-requires-2 c κs = search needs
+
+number : (c : tie.After-unless2) → let a = c .before .before .before .before .before .args in c .unless2 .result ≡ headRefusal (a .head) (Call.lossFee tt (a .amount .0))
+unfolding rulingOn
+number c =
+    let h = c .before in
+    let u = h .before in
+    simp (h .head-fits .ensures, u .unless .ensures, u .before .fee-refusal .ensures) at (c .unless2 .ensures)
 
 returns : tie.Need-returns
-unfolding headedOf rulingOn nextOn handed
+unfolding headedOf rulingOn nextOn
 returns c = let n = number (c .before) in rw (n, eq-eqb _ 0 (sym n ∙ c .if1 .taken))
 
 returns-2 : tie.Need-returns-2
-unfolding headedOf rulingOn nextOn handed
+unfolding headedOf rulingOn nextOn
 returns-2 c = let n = number (c .before) in rw (n, ne-eqb _ 0 (λ z. c .if1 .left (n ∙ z)))
 
 pub loss-fee-in-spec : {M : Type 1} → statement M
-loss-fee-in-spec = tie.close (tie.spec fee-refusal-requires unless-requires returns returns-2)
+loss-fee-in-spec =
+    tie.close
+    (tie.spec
+    fee-refusal-requires
+    unless-requires
+    head-fits-requires
+    unless-requires-2
+    returns
+    returns-2)

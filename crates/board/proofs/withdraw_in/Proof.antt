@@ -1,30 +1,23 @@
--- `board::withdraw_in` meets its contract: the number is the definition's by its tests, and `placing` keeps or sets the places. Assumes nothing.
+-- `board::withdraw_in` meets its contract: it is refused at the front, or by its place, or it empties its place. Assumes nothing.
 use Prim.Native.Nat.{ℕ}
-use mathlib.Core.Path.{refl, sym, ap, _∙_}
-use mathlib.Core.Bool.{Bool, false}
-use Rattle.whole.specs.Choice.{unless}
-use Rattle.history.specs.Rules.{Call, rulingAt}
-use Rattle.history.specs.Board.{rulingOn, nextOn}
-use Rattle.board.specs.Board.{placeOf, monthRules}
-use Rattle.board.proofs.Core.{placing-hands}
+use native.Mathlib.Omega.{arith}
+use mathlib.Core.Path.{_≡_, refl, sym, ap, ap₂, _∙_}
+use mathlib.Core.Bool.{Bool, true, false}
 use lib.IntN.{pos}
-use lib.ListN.{getD}
+use lib.ListN.{getD, set}
+use Rattle.whole.specs.Choice.{unless}
 use Rattle.units.specs.Refusals.{placeEmpty}
+use Rattle.history.specs.Rules.{Call}
+use Rattle.history.specs.Board.{rulingOn, nextOn}
+use Rattle.board.specs.Board.{placeOf, boardIn}
+use Rattle.board.proofs.Core.{turned-front, turned-rest, let-through}
 use borrow.Author.Needs.{needs}
+use borrow.Author.Tests.{not-true, not-false}
 use Rattle.board.proofs.withdraw_in.Statement.{statement}
 use Rattle.board.proofs.withdraw_in.Tie as tie
 
-place-of-requires : tie.Need-place-of-requires
-place-of-requires c κs = search needs
-
-filled-at-requires : tie.Need-filled-at-requires
-filled-at-requires c κs = search needs
-
-unless-requires : tie.Need-unless-requires
-unless-requires c κs = search needs
-
-placing-requires : tie.Need-placing-requires
-placing-requires c κs = search needs
+front-requires : tie.Need-front-requires
+front-requires c κs = search needs
 
 same-length : tie.Need-same-length
 same-length c = search needs
@@ -32,29 +25,87 @@ same-length c = search needs
 same-length-2 : tie.Need-same-length-2
 same-length-2 c = search needs
 
+-- what the place says
+rest-of : tie.Start → ℕ
+rest-of s = let a = s .args in unless (getD (a .filled .now) (placeOf (a .day) (a .hour)) false) placeEmpty 0
+
 returns : tie.Need-returns
-unfolding rulingOn nextOn
+unfolding rulingOn rest-of
 returns c =
+    let f = c .before in
+    let s = f .before .before .before .before in
+    let a = s .args in
+    turned-front (a .head) (a .filled .now) (a .amounts .now) (Call.withdraw (a .day) (a .hour)) (a .day) (a .hour) (rest-of s) refl _ (f .front .ensures) (c .if1 .taken)
+
+place-of-requires : tie.Need-place-of-requires
+place-of-requires c κs = search needs
+
+filled-at-requires : tie.Need-filled-at-requires
+filled-at-requires c κs = search needs
+
+same-length-3 : tie.Need-same-length-3
+same-length-3 c = search needs
+
+same-length-4 : tie.Need-same-length-4
+same-length-4 c = search needs
+
+taken-is : (c : tie.After-filled-at) →
+    let s = c .before .before .before .before .before .before .before .before in
+    c .filled-at .result ≡ getD (s .args .filled .now) (placeOf (s .args .day) (s .args .hour)) false
+taken-is c = simp (c .before .before .place-of .ensures) at (c .filled-at .ensures)
+
+returns-2 : tie.Need-returns-2
+unfolding rulingOn rest-of
+returns-2 c =
+    let t = c .before in
+    let e = t .before .before .before in
+    let f = e .before in
+    let s = f .before .before .before .before in
+    let a = s .args in
+    let empty = sym (taken-is t) ∙ not-true _ (c .if2 .taken) in
+    turned-rest (a .head) (a .filled .now) (a .amounts .now) (Call.withdraw (a .day) (a .hour)) (a .day) (a .hour) (rest-of s) refl
+    _ (f .front .ensures) (e .if1 .left) 8 (rw empty) (λ z. absurd (omega arith))
+
+put-requires : tie.Need-put-requires
+put-requires c κs = search needs
+
+same-length-5 : tie.Need-same-length-5
+same-length-5 c = search needs
+
+same-length-6 : tie.Need-same-length-6
+same-length-6 c = search needs
+
+returns-3 : tie.Need-returns-3
+unfolding rulingOn nextOn rest-of
+returns-3 c =
     let p = c .before .before .before in
-    let u = p .before .before .before in
-    let f = u .before in
-    let a = f .before .before .before .before .args in
-    let taken = f .filled-at .ensures ∙ ap (λ (i : ℕ). getD (a .filled .now) i false) (f .before .place-of .ensures) in
-    let rest = u .unless .ensures ∙ ap (λ (m : Bool). unless m placeEmpty 0) taken in
-    let number = ap (rulingAt (monthRules (a .head .days)) (a .head .closed) (a .day) (a .hour)) rest in (
-      p .placing .ensures .0 ∙ number,
-      placing-hands (a .head) (a .filled .now) _ (a .amounts .now) _ (Call.withdraw (a .day) (a .hour)) _ (placeOf (a .day) (a .hour)) false (pos 0)
-          (sym number) refl (p .placing .ensures .1 .0) (p .placing .ensures .1 .1),
-    )
+    let g = p .before .before .before in
+    let t = g .before in
+    let o = t .before .before in
+    let e = o .before in
+    let f = e .before in
+    let s = f .before .before .before .before in
+    let a = s .args in
+    let stands = sym (taken-is t) ∙ not-false _ (g .if2 .left) in
+    let marks = p .put .ensures .0 ∙ ap (λ (i : ℕ). set (a .filled .now) i false) (o .place-of .ensures) in
+    let items = p .put .ensures .1 ∙ ap (λ (i : ℕ). set (a .amounts .now) i (pos 0)) (o .place-of .ensures) in
+    let-through (a .head) (a .filled .now) (a .amounts .now) (Call.withdraw (a .day) (a .hour)) (a .day) (a .hour) (rest-of s) refl
+    _ (f .front .ensures) (e .if1 .left) 0 (rw stands) refl _ _ (ap₂ (boardIn (a .head)) marks items)
 
 pub withdraw-in-spec : {M : Type 1} → statement M
 withdraw-in-spec =
     tie.close
     (tie.spec
-    place-of-requires
-    filled-at-requires
-    unless-requires
-    placing-requires
+    front-requires
     same-length
     same-length-2
-    returns)
+    returns
+    place-of-requires
+    filled-at-requires
+    same-length-3
+    same-length-4
+    returns-2
+    put-requires
+    same-length-5
+    same-length-6
+    returns-3)

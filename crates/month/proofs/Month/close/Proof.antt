@@ -9,6 +9,8 @@ use Rattle.month.specs.Month.{rulesOf, boardOf, headOf, bookedOf}
 use Rattle.board.specs.declared.Head.{Head}
 use Rattle.board.specs.declared.Headed.{Headed}
 use Rattle.board.proofs.Core.{heads-close}
+use Rattle.history.proofs.Board.{Good, good-runs}
+use Rattle.month.proofs.Sound.{month-sound, month-good, well-days}
 use Rattle.month.proofs.Core.{answer-22, answer-in}
 use borrow.Author.Needs.{needs}
 use Rattle.month.proofs.Month.close.Statement.{statement}
@@ -22,6 +24,12 @@ unreachable-requires c κs = search needs
 
 returns : tie.Need-returns
 returns c = c .unreachable .ensures ∙ answer-22 _ _ (sym (c .before .before .well-formed .ensures) ∙ not-true _ (c .before .if1 .taken))
+
+well : (c : tie.Else1) → let m = c .before .before .args .self in wellFormed (rulesOf m) (boardOf m) ≡ true
+well c = sym (c .before .well-formed .ensures) ∙ not-false _ (c .if1 .left)
+
+good : (c : tie.Else1) → let m = c .before .before .args .self in Good (rulesOf m) (boardOf m)
+good c = month-good _ (well c) (search needs) (search needs)
 
 head-requires : tie.Need-head-requires
 head-requires c κs = search needs
@@ -40,11 +48,11 @@ returns-2 c =
     let a = e .before .before .args in
     let m = a .self in
     let call = Call.close in
-    let well : wellFormed (rulesOf m) (boardOf m) ≡ true = sym (e .before .well-formed .ensures) ∙ not-false _ (e .if1 .left) in
-    let heads = heads-close (headOf m) (m .filled) (m .amounts) in
+    let runs = good-runs (rulesOf m) (month-sound (m .days) (well-days m (well e))) (boardOf m) (good e) in
+    let heads = heads-close (headOf m) (m .filled) (m .amounts) runs in
     c .put-together .ensures
     ∙ ap (λ (x : Headed). bookedOf (x .refusal) (x .head) (m .filled) (m .amounts)) (n .close-in .ensures ∙ ap (λ (x : Head). headedOf x call) (h .head .ensures))
-    ∙ answer-in m call _ _ _ _ well (heads .number) (heads .board) (heads .days)
+    ∙ answer-in m call _ _ _ _ (well e) (good e) (heads .number) (heads .board) (heads .days)
 
 pub close-spec : {M : Type 1} → statement M
 close-spec =

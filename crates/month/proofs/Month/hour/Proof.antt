@@ -1,10 +1,13 @@
 -- `Month::hour` meets its contract: 22, and then the read-out in place. Assumes nothing.
-use mathlib.Core.Path.{sym, ap, _∙_}
+use mathlib.Core.Bool.{true}
+use Rattle.history.proofs.Board.{Good}
+use Rattle.month.proofs.Sound.{month-good}
+use mathlib.Core.Path.{_≡_, sym, ap, _∙_}
 use borrow.Author.Tests.{not-true, not-false}
-use Rattle.history.specs.Board.{hourOn}
+use Rattle.history.specs.Board.{wellFormed, hourIn}
 use Rattle.board.specs.Board.{monthRules, boardIn, toldOf}
 use Rattle.board.specs.declared.Head.{Head}
-use Rattle.month.specs.Month.{hourOf}
+use Rattle.month.specs.Month.{rulesOf, boardOf, hourOf}
 use Rattle.month.proofs.Readouts.{told-22, hour-told}
 use borrow.Author.Needs.{needs}
 use Rattle.month.proofs.Month.hour.Statement.{statement}
@@ -20,6 +23,12 @@ returns : tie.Need-returns
 unfolding hourOf
 returns c = c .refused .ensures ∙ told-22 (c .before .before .before .args .t1) _ (sym (c .before .before .well-formed .ensures) ∙ not-true _ (c .before .if1 .taken))
 
+well : (c : tie.Else1) → let m = c .before .before .args .t1 in wellFormed (rulesOf m) (boardOf m) ≡ true
+well c = sym (c .before .well-formed .ensures) ∙ not-false _ (c .if1 .left)
+
+good : (c : tie.Else1) → let m = c .before .before .args .t1 in Good (rulesOf m) (boardOf m)
+good c = month-good _ (well c) (search needs) (search needs)
+
 head-requires : tie.Need-head-requires
 head-requires c κs = search needs
 
@@ -33,8 +42,8 @@ returns-2 c =
     let a = e .before .before .args in
     let m = a .t1 in
     c .hour-in .ensures
-    ∙ ap (λ (x : Head). toldOf (hourOn (monthRules (x .days)) (boardIn x (m .filled) (m .amounts)) (a .day) (a .hour))) (h .head .ensures)
-    ∙ hour-told m (sym (e .before .well-formed .ensures) ∙ not-false _ (e .if1 .left)) (a .day) (a .hour)
+    ∙ ap (λ (x : Head). toldOf (hourIn (monthRules (x .days)) (boardIn x (m .filled) (m .amounts)) (a .day) (a .hour))) (h .head .ensures)
+    ∙ hour-told m (well e) (good e) (a .day) (a .hour)
 
 pub hour-spec : {M : Type 1} → statement M
 hour-spec =

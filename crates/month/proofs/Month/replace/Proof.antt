@@ -6,6 +6,8 @@ use Rattle.history.specs.Rules.{Call}
 use Rattle.history.specs.Board.{wellFormed}
 use Rattle.board.specs.Board.{amountItem}
 use Rattle.month.specs.Month.{rulesOf, boardOf, headOf}
+use Rattle.history.proofs.Board.{Good}
+use Rattle.month.proofs.Sound.{month-good}
 use Rattle.month.proofs.Core.{answer-22, answer-in}
 use borrow.Author.Needs.{needs}
 use Rattle.month.proofs.Month.replace.Statement.{statement}
@@ -19,6 +21,12 @@ unreachable-requires c κs = search needs
 
 returns : tie.Need-returns
 returns c = c .unreachable .ensures ∙ answer-22 _ _ (sym (c .before .before .well-formed .ensures) ∙ not-true _ (c .before .if1 .taken))
+
+well : (c : tie.Else1) → let m = c .before .before .args .self in wellFormed (rulesOf m) (boardOf m) ≡ true
+well c = sym (c .before .well-formed .ensures) ∙ not-false _ (c .if1 .left)
+
+good : (c : tie.Else1) → let m = c .before .before .args .self in Good (rulesOf m) (boardOf m)
+good c = month-good _ (well c) (search needs) (search needs)
 
 head-requires : tie.Need-head-requires
 head-requires c κs = search needs
@@ -41,11 +49,10 @@ returns-2 c =
     let h = p .before .before .before .before .before in
     let e = h .before in
     let a = e .before .before .args in
-    let well : wellFormed (rulesOf (a .self)) (boardOf (a .self)) ≡ true = sym (e .before .well-formed .ensures) ∙ not-false _ (e .if1 .left) in
     let number = rw (h .head .ensures) at (p .replace-in .ensures .0) in
     let board = rw (h .head .ensures) at (p .replace-in .ensures .1) in
     (rw (h .head .ensures) at (c .put-together .ensures))
-    ∙ answer-in (a .self) (Call.replace (a .day) (a .hour) (amountItem (a .amount .0))) _ (headOf (a .self)) _ _ well number board refl
+    ∙ answer-in (a .self) (Call.replace (a .day) (a .hour) (amountItem (a .amount .0))) _ (headOf (a .self)) _ _ (well e) (good e) number board refl
 
 pub replace-spec : {M : Type 1} → statement M
 replace-spec =

@@ -1,34 +1,33 @@
--- `Month::well_formed` meets its contract: its three tests are the definition's. Assumes nothing.
-use mathlib.Core.Path.{ap, _∙_}
-use lib.IntN.{pos}
-use mir.Syntax.{w64}
-use mir.Val.{SFits}
-use mir.Facts.{toZ-ofZ}
-use Rattle.whole.specs.Whole.{inRange}
-use Rattle.history.specs.Board.{wellFormed}
-use Rattle.month.proofs.Core.{test-is}
+-- `Month::well_formed` meets its contract: its runs are the ledger's by their types, so that the test in place refuses it just with 22. Assumes nothing.
+use Prim.Native.Nat.{ℕ}
+use mathlib.Core.Path.{_≡_, ap, _∙_}
+use mathlib.Core.Bool.{true}
+use lib.Dec.{eqb}
+use lib.ListN.{length}
 use borrow.Author.Needs.{needs}
+use borrow.Author.Tests.{eq-eqb}
+use Rattle.whole.proofs.Choice.{both}
+use Rattle.history.specs.Board.{runsFit, ledgerRefusal}
+use Rattle.history.proofs.Board.{ledger-test}
+use Rattle.board.specs.Board.{monthRules, boardIn}
+use Rattle.board.specs.declared.Head.{Head}
+use Rattle.month.specs.Month.{rulesOf, boardOf}
 use Rattle.month.proofs.Month.well_formed.Statement.{statement}
 use Rattle.month.proofs.Month.well_formed.Tie as tie
 
-is-days-requires : tie.Need-is-days-requires
-is-days-requires c κs = search needs
+head-requires : tie.Need-head-requires
+head-requires c κs = search needs
 
-within-requires : tie.Need-within-requires
-within-requires c κs = search needs
-
-places-fit-requires : tie.Need-places-fit-requires
-places-fit-requires c κs = search needs
+check-in-requires : tie.Need-check-in-requires
+check-in-requires c κs = search needs
 
 returns : tie.Need-returns
-unfolding wellFormed
 returns c =
-    let f = c .before .before .before .before in
-    let m = f .before .before .before .before .args .t1 in
-    let fits : SFits w64 (m .fee .0) = search needs in
-    let fee = f .within .ensures ∙ ap (inRange (pos 0) (pos 100000000000)) (toZ-ofZ fits) in
-    rw (f .before .is-days .ensures, fee, test-is (inRange (pos 0) (pos 100000000000) (m .fee .0)), c .places-fit .ensures)
+    let h = c .before .before .before .before .before .before in
+    let m = h .before .args .t1 in
+    let runs : runsFit (rulesOf m) (boardOf m) ≡ true = both (eq-eqb (length (m .filled)) 744 (search needs)) (eq-eqb (length (m .amounts)) 744 (search needs)) in
+    let number = c .check-in .ensures ∙ ap (λ (x : Head). ledgerRefusal (monthRules (x .days)) (boardIn x (m .filled) (m .amounts))) (h .head .ensures) in
+    ap (λ (k : ℕ). eqb k 0) number ∙ ledger-test (rulesOf m) (boardOf m) runs
 
 pub well-formed-spec : {M : Type 1} → statement M
-well-formed-spec =
-    tie.close (tie.spec is-days-requires within-requires places-fit-requires returns)
+well-formed-spec = tie.close (tie.spec head-requires check-in-requires returns)

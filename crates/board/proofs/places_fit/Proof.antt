@@ -1,4 +1,4 @@
--- `month::places_fit` meets its contract. The loop's invariant: every place passed fits. Assumes nothing.
+-- `board::places_fit` meets its contract. The loop's invariant: every place passed fits. Assumes nothing.
 use Prim.Native.Nat.{ℕ, _-_, _≤_}
 use mathlib.Core.Path.{_≡_, sym, ap, _∙_}
 use mathlib.Core.Bool.{Bool, true, false, _&&_}
@@ -14,9 +14,9 @@ use borrow.Author.Tests.{not-true, not-false}
 use Rattle.whole.specs.Folds.{allTo}
 use Rattle.whole.proofs.Choice.{both}
 use Rattle.whole.proofs.Folds.{fold-none, fold-step, all-fails}
-use Rattle.month.specs.Month.{placeFits}
-use Rattle.month.proofs.places_fit.Statement.{statement}
-use Rattle.month.proofs.places_fit.Tie as tie
+use Rattle.board.specs.Board.{placeFits}
+use Rattle.board.proofs.places_fit.Statement.{statement}
+use Rattle.board.proofs.places_fit.Tie as tie
 
 abbrev fits : ℕ → List Bool → List ℤ → ℕ → Bool
 fits days filled amounts p = placeFits days p (getD filled p false) (getD amounts p (pos 0))
@@ -33,26 +33,26 @@ loop-holds c = (omega arith, fold-none true _&&_ _)
 mul-a : tie.Need-mul-a Inv-loop μ-loop
 mul-a c = omega arith
 
-element-copy-out-a : tie.Need-element-copy-out-a Inv-loop μ-loop
-element-copy-out-a c = omega arith
+shared-slice-copy-out-a : tie.Need-shared-slice-copy-out-a Inv-loop μ-loop
+shared-slice-copy-out-a c = omega arith
 
-element-copy-out-place-fits : tie.Need-element-copy-out-place-fits Inv-loop μ-loop
-element-copy-out-place-fits c = omega arith
+shared-slice-read-place-fits : tie.Need-shared-slice-read-place-fits Inv-loop μ-loop
+shared-slice-read-place-fits c = omega arith
 
 place-fits-requires : tie.Need-place-fits-requires Inv-loop μ-loop
 place-fits-requires c κs = search needs
 
-amount-fits : (c : tie.After-a Inv-loop μ-loop) → SFits w64 (getD (c .before .before .before .args .amounts .now) (c .before .before .loop .p) (pos 0))
+amount-fits : (c : tie.After-a Inv-loop μ-loop) → SFits w64 (getD (c .before .before .before .before .args .amounts .now) (c .before .before .loop .p) (pos 0))
 amount-fits c = search needs
 
 -- what the place's test found
 judged : (c : tie.After-place-fits Inv-loop μ-loop) →
     let l = c .before .before .before .before in
-    let a = l .before .args in
+    let a = l .before .before .args in
     c .place-fits .result ≡ fits (a .days) (a .filled .now) (a .amounts .now) (l .loop .p)
 judged c =
     let l = c .before .before .before .before in
-    let a = l .before .args in
+    let a = l .before .before .args in
     let p = l .loop .p in
     c .place-fits .ensures ∙ ap (placeFits (a .days) p (getD (a .filled .now) p false)) (toZ-ofZ (amount-fits (c .before .before)))
 
@@ -83,8 +83,8 @@ places-fit-spec =
     μ-loop
     loop-holds
     mul-a
-    element-copy-out-a
-    element-copy-out-place-fits
+    shared-slice-copy-out-a
+    shared-slice-read-place-fits
     place-fits-requires
     returns
     add-p

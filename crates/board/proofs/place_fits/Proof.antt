@@ -1,4 +1,4 @@
--- `month::place_fits` meets its contract: by the mark; the range test is the amount's refusal, and its bits are 0 just where it is. Assumes nothing.
+-- `board::place_fits` meets its contract: by the mark; the range test is the amount's refusal, and its bits are 0 just where it is. Assumes nothing.
 use mathlib.Core.Path.{ap, _∙_}
 use lib.IntN.{pos}
 use mir.Syntax.{w64}
@@ -7,10 +7,10 @@ use mir.Facts.{toZ-ofZ}
 use Rattle.whole.specs.Whole.{minus, inRange}
 use Rattle.whole.proofs.Signed.{zero-bits}
 use Rattle.history.proofs.Days.{hours-even}
-use Rattle.month.proofs.Core.{test-is}
+use Rattle.board.proofs.Core.{test-is}
 use borrow.Author.Needs.{needs}
-use Rattle.month.proofs.place_fits.Statement.{statement}
-use Rattle.month.proofs.place_fits.Tie as tie
+use Rattle.board.proofs.place_fits.Statement.{statement}
+use Rattle.board.proofs.place_fits.Tie as tie
 
 mul-result : tie.Need-mul-result
 mul-result c = search needs
