@@ -10,7 +10,7 @@ use Rattle.whole.specs.Choice.{pick, unless, orElse, kept}
 use Rattle.whole.proofs.Choice.{unless-then, or-first, or-rest, kept-new, kept-old}
 use Rattle.units.specs.Refusals.{wrongLength, badMoney, notReachable, monthClosed}
 use Rattle.history.specs.Rules.{Call, inside, rulingAt}
-use Rattle.history.specs.Board.{Board, runsFit, feesFit, rulingOn, nextOn, refusalIn, leftIn}
+use Rattle.history.specs.Board.{Board, runsFit, feesFit, rulingOn, nextOn, ruledIn, handedIn}
 use Rattle.board.specs.Board.{Fee, Item, monthRules, boardIn, frontOf, headedOf, headRefusal}
 use Rattle.board.specs.declared.Head.{Head}
 
@@ -28,14 +28,14 @@ front-then head fs xs d x rest =
 module _ (head : Head) (fs : List Bool) (xs : List ℤ) (c : Call Fee Item) (d x rest : ℕ)
     (is : rulingOn (monthRules (head .days)) (boardIn head fs xs) c ≡ rulingAt (monthRules (head .days)) (head .closed) d x rest) where
   abbrev pub Came : ℕ → Board Fee Bool ℤ → Type 0
-  Came k next = (k ≡ refusalIn (monthRules (head .days)) (boardIn head fs xs) c) × (next ≡ leftIn (monthRules (head .days)) (boardIn head fs xs) c)
+  Came k next = (k ≡ ruledIn (monthRules (head .days)) (boardIn head fs xs) c) × (next ≡ handedIn (monthRules (head .days)) (boardIn head fs xs) c)
 
-  number : refusalIn (monthRules (head .days)) (boardIn head fs xs) c ≡ orElse (frontOf head fs xs d x 0) rest
-  unfolding refusalIn
+  number : ruledIn (monthRules (head .days)) (boardIn head fs xs) c ≡ orElse (frontOf head fs xs d x 0) rest
+  unfolding ruledIn
   number = rw is (front-then head fs xs d x rest)
 
-  turned : (k : ℕ) → k ≡ refusalIn (monthRules (head .days)) (boardIn head fs xs) c → (k ≡ 0 → ⊥) → Came k (boardIn head fs xs)
-  unfolding leftIn
+  turned : (k : ℕ) → k ≡ ruledIn (monthRules (head .days)) (boardIn head fs xs) c → (k ≡ 0 → ⊥) → Came k (boardIn head fs xs)
+  unfolding handedIn
   turned k e f = (e, sym (kept-old _ (boardIn head fs xs) (λ z. f (e ∙ z))))
 
   -- 1, 22, 9 or 6
@@ -43,7 +43,7 @@ module _ (head : Head) (fs : List Bool) (xs : List ℤ) (c : Call Fee Item) (d x
   turned-front k e f = turned k (e ∙ sym (number ∙ or-first rest (λ z. f (e ∙ z)))) f
 
   module _ (k : ℕ) (e : k ≡ frontOf head fs xs d x 0) (z : k ≡ 0) where
-    by-rest : refusalIn (monthRules (head .days)) (boardIn head fs xs) c ≡ rest
+    by-rest : ruledIn (monthRules (head .days)) (boardIn head fs xs) c ≡ rest
     by-rest = number ∙ or-rest rest (sym e ∙ z)
 
     -- 3, 7 or 8
@@ -51,15 +51,15 @@ module _ (head : Head) (fs : List Bool) (xs : List ℤ) (c : Call Fee Item) (d x
     turned-rest n r f = turned n (r ∙ sym by-rest) f
 
     pub let-through : (n : ℕ) → n ≡ rest → n ≡ 0 → (gs : List Bool) (ys : List ℤ) → boardIn head gs ys ≡ nextOn (monthRules (head .days)) (boardIn head fs xs) c → Came 0 (boardIn head gs ys)
-    unfolding leftIn
+    unfolding handedIn
     let-through n r o gs ys next =
         let none = by-rest ∙ sym r ∙ o in
         (sym none, next ∙ sym (kept-new _ (boardIn head fs xs) none))
 
 -- a call that touches no place, at a head whose runs are the ledger's
 pub record Heads (head : Head) (fs : List Bool) (xs : List ℤ) (c : Call Fee Item) : Type 0 where
-  pub number : headedOf head c .refusal ≡ refusalIn (monthRules (head .days)) (boardIn head fs xs) c
-  pub board : boardIn (headedOf head c .head) fs xs ≡ leftIn (monthRules (head .days)) (boardIn head fs xs) c
+  pub number : headedOf head c .refusal ≡ ruledIn (monthRules (head .days)) (boardIn head fs xs) c
+  pub board : boardIn (headedOf head c .head) fs xs ≡ handedIn (monthRules (head .days)) (boardIn head fs xs) c
   pub days : headedOf head c .head .days ≡ head .days
 
 head-kept : (head : Head) (k : ℕ) (closed : Bool) (fee : Fee → ℤ) (fs : List Bool) (xs : List ℤ) →
@@ -79,12 +79,12 @@ head-kept head k closed fee fs xs = go (eqb k 0)
 
 module _ (head : Head) (fs : List Bool) (xs : List ℤ) (runs : runsFit (monthRules (head .days)) (boardIn head fs xs) ≡ true) where
   pub heads-fee : (fee : ℤ) → Heads head fs xs (Call.lossFee tt fee)
-  unfolding headedOf rulingOn nextOn refusalIn leftIn
+  unfolding headedOf rulingOn nextOn ruledIn handedIn
   heads-fee fee =
       record { number = rw runs; board = rw runs (head-kept head (headRefusal head (Call.lossFee tt fee)) (head .closed) (λ _. fee) fs xs); days = refl }
 
   pub heads-close : Heads head fs xs Call.close
-  unfolding headedOf rulingOn nextOn refusalIn leftIn
+  unfolding headedOf rulingOn nextOn ruledIn handedIn
   heads-close = record { number = rw runs; board = rw runs (head-kept head (headRefusal head Call.close) true (λ _. head .fee .0) fs xs); days = refl }
 
 -- an amount or a fee is not refused just where its range test passes

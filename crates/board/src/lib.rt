@@ -8,7 +8,7 @@ ghost use lib.IntN.{pos};
 ghost use lib.ListN.{length, getD, set};
 ghost use Rattle.whole.specs.Choice.{unless, orElse};
 ghost use Rattle.history.specs.Rules.{Call, inside};
-ghost use Rattle.history.specs.Board.{feesFit, told, ledgerRefusal, refusalIn, leftIn, hourIn};
+ghost use Rattle.history.specs.Board.{feesFit, told, ledgerRefusal, ruledIn, handedIn, hourIn};
 ghost use Rattle.board.specs.Board.{amountItem, amountRefusal, feeRefusal, isDays, monthRules, placeOf, dollars, boardIn, frontOf, headedOf, toldOf, placeFits, placesFit};
 use units::Dollars;
 use units::refusals;
@@ -174,8 +174,8 @@ pub fn post_in(
     hour: u8,
     amount: Dollars,
 ) -> u8
-    ensures answers { λ r. ⌜ r ≡ refusalIn (monthRules (head .days)) (boardIn head (now (filled .entry)) (now (amounts .entry))) (Call.post day hour (amountItem (amount .0))) ⌝ }
-    ensures leaves { λ r. ⌜ boardIn head (now (filled .exit)) (now (amounts .exit)) ≡ leftIn (monthRules (head .days)) (boardIn head (now (filled .entry)) (now (amounts .entry))) (Call.post day hour (amountItem (amount .0))) ⌝ }
+    ensures answers { λ r. ⌜ r ≡ ruledIn (monthRules (head .days)) (boardIn head (now (filled .entry)) (now (amounts .entry))) (Call.post day hour (amountItem (amount .0))) ⌝ }
+    ensures leaves { λ r. ⌜ boardIn head (now (filled .exit)) (now (amounts .exit)) ≡ handedIn (monthRules (head .days)) (boardIn head (now (filled .entry)) (now (amounts .entry))) (Call.post day hour (amountItem (amount .0))) ⌝ }
 {
     let k = front(head, filled, amounts, day, hour);
     if k != 0 {
@@ -200,8 +200,8 @@ pub fn replace_in(
     hour: u8,
     amount: Dollars,
 ) -> u8
-    ensures answers { λ r. ⌜ r ≡ refusalIn (monthRules (head .days)) (boardIn head (now (filled .entry)) (now (amounts .entry))) (Call.replace day hour (amountItem (amount .0))) ⌝ }
-    ensures leaves { λ r. ⌜ boardIn head (now (filled .exit)) (now (amounts .exit)) ≡ leftIn (monthRules (head .days)) (boardIn head (now (filled .entry)) (now (amounts .entry))) (Call.replace day hour (amountItem (amount .0))) ⌝ }
+    ensures answers { λ r. ⌜ r ≡ ruledIn (monthRules (head .days)) (boardIn head (now (filled .entry)) (now (amounts .entry))) (Call.replace day hour (amountItem (amount .0))) ⌝ }
+    ensures leaves { λ r. ⌜ boardIn head (now (filled .exit)) (now (amounts .exit)) ≡ handedIn (monthRules (head .days)) (boardIn head (now (filled .entry)) (now (amounts .entry))) (Call.replace day hour (amountItem (amount .0))) ⌝ }
 {
     let k = front(head, filled, amounts, day, hour);
     if k != 0 {
@@ -219,8 +219,8 @@ pub fn replace_in(
 
 // Withdraw in place.
 pub fn withdraw_in(head: Head, filled: &mut [bool], amounts: &mut [i64], day: u8, hour: u8) -> u8
-    ensures answers { λ r. ⌜ r ≡ refusalIn (monthRules (head .days)) (boardIn head (now (filled .entry)) (now (amounts .entry))) (Call.withdraw day hour) ⌝ }
-    ensures leaves { λ r. ⌜ boardIn head (now (filled .exit)) (now (amounts .exit)) ≡ leftIn (monthRules (head .days)) (boardIn head (now (filled .entry)) (now (amounts .entry))) (Call.withdraw day hour) ⌝ }
+    ensures answers { λ r. ⌜ r ≡ ruledIn (monthRules (head .days)) (boardIn head (now (filled .entry)) (now (amounts .entry))) (Call.withdraw day hour) ⌝ }
+    ensures leaves { λ r. ⌜ boardIn head (now (filled .exit)) (now (amounts .exit)) ≡ handedIn (monthRules (head .days)) (boardIn head (now (filled .entry)) (now (amounts .entry))) (Call.withdraw day hour) ⌝ }
 {
     let k = front(head, filled, amounts, day, hour);
     if k != 0 {

@@ -7,7 +7,7 @@ use mathlib.Core.List.{List}
 use lib.IntN.{ℤ}
 use Rattle.history.specs.Rules.{Call}
 use Rattle.frame.specs.Frame.{readingOf, lineOf}
-use Rattle.intake.specs.Book.{Book, callOf, callRefusal, callBook, frameRefusal, frameBook, refusalIn, bookIn}
+use Rattle.intake.specs.Book.{Book, callOf, callRefusal, callBook, frameRefusal, frameBook, readingRefusal, bookIn}
 use Rattle.hours.specs.Numbers.{number, byteOf}
 use Rattle.hours.specs.Hours.{hourAsked, settlement}
 use Rattle.question.specs.Frames.{hourFrame}
@@ -17,7 +17,7 @@ use Rattle.question.proofs.Posting.{posting, Posts, posts}
 -- the line posts the hour that was asked; what the ledger's program answers to it, and keeps
 pub record Piped (shifting : Bool) (n : List ℤ) (book : Book) (day hour : ℕ) : Type 0 where
   pub posted : Posts shifting n day hour
-  pub answered : refusalIn book (readingOf (lineOf (posting day hour (hourAsked shifting n 2))))
+  pub answered : readingRefusal book (readingOf (lineOf (posting day hour (hourAsked shifting n 2))))
       ≡ callRefusal book (Call.post day hour (true, settlement (hourAsked shifting n 2) .amount .0))
   pub kept : bookIn book (readingOf (lineOf (posting day hour (hourAsked shifting n 2))))
       ≡ callBook book (Call.post day hour (true, settlement (hourAsked shifting n 2) .amount .0))
@@ -27,4 +27,4 @@ pub books-the-hour : (shifting : Bool) (n : List ℤ) (book : Book) → lines.fr
 unfolding frameRefusal frameBook callOf
 books-the-hour shifting n book z =
     let p = posts shifting n z in
-    record { posted = p; answered = ap (refusalIn book) (p .reads); kept = ap (bookIn book) (p .reads) }
+    record { posted = p; answered = ap (readingRefusal book) (p .reads); kept = ap (bookIn book) (p .reads) }

@@ -16,7 +16,7 @@ use Rattle.whole.specs.Folds.{foldTo}
 use Rattle.whole.proofs.Choice.{both, and-both, clash, by-test, passed}
 use Rattle.whole.proofs.Folds.{all-at, all-of, fold-same, fold-tail}
 use Rattle.history.specs.Rules.{Call, Rules, Sound, hoursTo, isAmong, inside, placeIn, placesOf}
-use Rattle.history.specs.Board.{Board, markAt, itemAt, fitsAt, feesFit, wellFormed, fresh, placed, rulingOn, nextOn, handed, runsFit, ledgerRefusal, lentRefusal, refusalIn, leftIn}
+use Rattle.history.specs.Board.{Board, markAt, itemAt, fitsAt, feesFit, wellFormed, fresh, placed, rulingOn, nextOn, handed, runsFit, ledgerRefusal, lentRefusal, ruledIn, handedIn}
 use Rattle.history.specs.History.{readAs}
 use Rattle.history.proofs.Days.{place-below, place-same, fold-hours}
 
@@ -146,12 +146,12 @@ module _ {F M B : Type 0} (R : Rules F M B) (sound : Sound R) where
   pub good-lent : (b : Board F M B) → Good R b → (rest : ℕ) → lentRefusal R b rest ≡ rest
   good-lent b g rest = rw (good-runs b g, good-fees b g)
 
-  pub good-refusal : (b : Board F M B) → Good R b → (c : Call F (M × B)) → refusalIn R b c ≡ rulingOn R b c
-  unfolding refusalIn
+  pub good-refusal : (b : Board F M B) → Good R b → (c : Call F (M × B)) → ruledIn R b c ≡ rulingOn R b c
+  unfolding ruledIn
   good-refusal b g c = good-lent b g (rulingOn R b c)
 
-  pub good-left : (b : Board F M B) → Good R b → (c : Call F (M × B)) → leftIn R b c ≡ handed R b c
-  unfolding leftIn handed
+  pub good-left : (b : Board F M B) → Good R b → (c : Call F (M × B)) → handedIn R b c ≡ handed R b c
+  unfolding handedIn handed
   good-left b g c = ap (λ k. kept k (nextOn R b c) b) (good-refusal b g c)
 
   pub good-ledger : (b : Board F M B) → Good R b → ledgerRefusal R b ≡ 0

@@ -11,9 +11,9 @@ use Rattle.whole.specs.Choice.{pick, unless, orElse, kept}
 use Rattle.whole.proofs.Choice.{by-test, passed, both-passed, kept-any, kept-by}
 use Rattle.units.specs.Refusals.{monthClosed, notInMonth, placeFilled, placeEmpty}
 use Rattle.history.specs.Rules.{Call, Rules, Sound, inside, placeIn, rulingAt, ruling}
-use Rattle.history.specs.Board.{Board, markAt, itemAt, filledAt, fresh, placed, rulingOn, nextOn, handed}
+use Rattle.history.specs.Board.{Board, markAt, itemAt, filledAt, fresh, placed, rulingOn, nextOn, handed, ruledIn, handedIn}
 use Rattle.history.specs.History.{Entry, leaves, standing, feeAfter, lastFee, closedAfter, isClosed, stands, rulingAfter}
-use Rattle.history.proofs.Board.{Good, standsOn, of-blank, fresh-good, fresh-stands, set-good, set-stands}
+use Rattle.history.proofs.Board.{Good, good-refusal, standsOn, of-blank, fresh-good, fresh-stands, set-good, set-stands}
 
 -- the board tells what the history tells
 pub record Told {F M B : Type 0} (R : Rules F M B) (h : List (Entry F (M × B))) (b : Board F M B) : Type 0 where
@@ -122,6 +122,11 @@ module _ {F M B : Type 0} (R : Rules F M B) where
             fee-is = λ _. refl;
             closed-is = refl;
           }
+
+    -- what a call in place leaves of a board in form is in form
+    pub left-stays : (b : Board F M B) → Good R b → (c : Call F (M × B)) → Good R (handedIn R b c)
+    unfolding handedIn
+    left-stays b g c = kept-any (Good R) (ruledIn R b c) (λ z. effect b g c (sym (good-refusal R sound b g c) ∙ z) .good) g
 
     -- the call and what it hands on
     pub next-told : (h : List (Entry F (M × B))) (b : Board F M B) → Told R h b → (c : Call F (M × B)) → Told R (entry c (rulingOn R b c) ∷ h) (handed R b c)

@@ -126,11 +126,11 @@ module _ {F M B : Type 0} (R : Rules F M B) where
   lentRefusal b rest = unless (runsFit b) wrongLength (unless (feesFit b) notReachable rest)
 
   -- what a call in place answers and leaves: 1, 22, then the ruling; a refusal leaves the board as it was
-  unfoldable pub refusalIn : Board F M B → Call F (M × B) → ℕ
-  refusalIn b c = lentRefusal b (rulingOn b c)
+  unfoldable pub ruledIn : Board F M B → Call F (M × B) → ℕ
+  ruledIn b c = lentRefusal b (rulingOn b c)
 
-  unfoldable pub leftIn : Board F M B → Call F (M × B) → Board F M B
-  leftIn b c = kept (refusalIn b c) (nextOn b c) b
+  unfoldable pub handedIn : Board F M B → Call F (M × B) → Board F M B
+  handedIn b c = kept (ruledIn b c) (nextOn b c) b
 
   -- one hour in place: 1, 22, 6, 8
   unfoldable pub hourIn : Board F M B → ℕ → ℕ → ℕ × ℤ

@@ -4,14 +4,14 @@ use mathlib.Core.Path.{_≡_, refl, sym}
 use mathlib.Core.Bool.{Bool, true, false}
 use mathlib.Core.List.{List, []}
 use lib.IntN.{ℤ, pos}
-use lib.ListN.{replicate}
+use lib.ListN.{length, replicate}
 use borrow.Author.Tests.{eq-eqb, ne-eqb, lt-ltb, le-ltb}
 use lib.Dec.{eqb}
 use Rattle.whole.specs.Choice.{pick, unless, orElse}
-use Rattle.whole.proofs.Choice.{kept-new, kept-old}
+use Rattle.whole.proofs.Choice.{both, kept-new, kept-old}
 use Rattle.units.specs.Refusals.{notOpen}
 use Rattle.history.specs.Rules.{Call, post, replace, withdraw, lossFee, close}
-use Rattle.history.specs.Board.{fresh, rulingOn, handed}
+use Rattle.history.specs.Board.{fresh, runsFit, ruledIn, handedIn}
 use Rattle.board.specs.Board.{Fee, Item, amountItem, dollars, monthRules, boardIn, headedOf}
 use Rattle.board.proofs.Core.{Heads, heads-fee, heads-close}
 use Rattle.board.specs.declared.Head.{Head}
@@ -19,7 +19,7 @@ use Rattle.frame.specs.Kinds.{openKind, postKind, replaceKind, withdrawKind, lo
 use Rattle.frame.specs.Frame.{readingOf}
 use Rattle.frame.specs.declared.Entry.{Entry}
 use Rattle.intake.specs.Text.{answerText}
-use Rattle.intake.specs.Book.{Book, callOf, openRefusal, openBook, callRefusal, callBook, frameRefusal, frameBook, refusalIn, bookIn, counted, mostLines, answerTo, bookAfter}
+use Rattle.intake.specs.Book.{Book, callOf, openRefusal, openBook, callRefusal, callBook, frameRefusal, frameBook, readingRefusal, bookIn, counted, mostLines, answerTo, bookAfter}
 use Rattle.intake.specs.Desk.{bookOf, headCall, headTaken}
 use Rattle.intake.specs.declared.Desk.{Desk}
 
@@ -53,8 +53,8 @@ module _ (desk : Desk) (fs : List Bool) (xs : List ℤ) (c : Call Fee Item) wher
   called-14 o = rw o (refl, refl)
 
   pub called : (head : Head) (gs : List Bool) (ys : List ℤ) (k : ℕ) → desk .opened ≡ true
-      → k ≡ rulingOn (monthRules (desk .head .days)) (boardIn (desk .head) fs xs) c
-      → boardIn head gs ys ≡ handed (monthRules (desk .head .days)) (boardIn (desk .head) fs xs) c
+      → k ≡ ruledIn (monthRules (desk .head .days)) (boardIn (desk .head) fs xs) c
+      → boardIn head gs ys ≡ handedIn (monthRules (desk .head .days)) (boardIn (desk .head) fs xs) c
       → head .days ≡ desk .head .days
       → Came k (bookOf (record { count = desk .count; opened = desk .opened; head = head }) gs ys)
   unfolding callRefusal callBook
@@ -100,14 +100,17 @@ module _ (book : Book) (line : List ℕ) where
   answered-none h = rw (le-ltb (book .count) mostLines h) (refl, refl)
 
   pub answered-one : book .count < mostLines
-      → (answerTo book line ≡ answerText (book .count + 1) (refusalIn book (readingOf line))) × (bookAfter book line ≡ counted (book .count + 1) (bookIn book (readingOf line)))
+      → (answerTo book line ≡ answerText (book .count + 1) (readingRefusal book (readingOf line))) × (bookAfter book line ≡ counted (book .count + 1) (bookIn book (readingOf line)))
   unfolding answerTo bookAfter
   answered-one h = rw (lt-ltb (book .count) mostLines h) (refl, refl)
 
--- the calls that touch no place, either of them
-pub head-heads : (head : Head) (fs : List Bool) (xs : List ℤ) (kind : ℕ) (amount : ℤ) → Heads head fs xs (headCall kind amount)
-head-heads head fs xs kind amount = go (eqb kind lossFeeKind)
+-- the calls that touch no place, either of them, on runs that are the ledger's
+pub head-heads : (head : Head) (fs : List Bool) (xs : List ℤ) (kind : ℕ) (amount : ℤ) → length fs ≡ 744 → length xs ≡ 744 → Heads head fs xs (headCall kind amount)
+head-heads head fs xs kind amount lf lx = go (eqb kind lossFeeKind)
   where
+    runs : runsFit (monthRules (head .days)) (boardIn head fs xs) ≡ true
+    runs = both (eq-eqb (length fs) 744 lf) (eq-eqb (length xs) 744 lx)
+
     go : (t : Bool) → Heads head fs xs (pick t (lossFee tt amount) close)
-    go true = heads-fee head fs xs amount
-    go false = heads-close head fs xs
+    go true = heads-fee head fs xs runs amount
+    go false = heads-close head fs xs runs

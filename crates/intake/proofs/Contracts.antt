@@ -2,10 +2,9 @@
 -- one that meets `finish`'s, from the first state and a month's empty places, has printed the transcript of the whole input. The contracts are
 -- equations, so that this follows from the definitions. Assumes nothing.
 use Prim.Native.Nat.{ℕ}
-use mathlib.Core.Path.{_≡_, sym, ap, ap₂, _∙_}
-use mathlib.Core.Bool.{Bool, true, false}
+use mathlib.Core.Path.{_≡_, refl, sym, ap, ap₂, _∙_}
+use mathlib.Core.Bool.{Bool, false}
 use mathlib.Core.List.{List, [], _∷_, _++_}
-use native.Mathlib.Omega.{arith}
 use lib.IntN.{ℤ, pos}
 use lib.ListN.{length, take, replicate}
 use lib.Seq.{take-append-seam}
@@ -13,13 +12,16 @@ use contract.Lifetimes.{Lfts}
 use denote.Ref.{now}
 use denote.Triple.Clauses.{AtExit}
 use borrow.Fn.Kinds.{Dens, endedOf}
-use Rattle.whole.proofs.Choice.{by-test}
+use Rattle.whole.proofs.Choice.{kept-new}
+use Rattle.whole.proofs.Refused.{number-is}
 use Rattle.text.specs.Text.{put}
 use Rattle.intake.specs.Book.{transcript}
-use Rattle.intake.specs.Desk.{startState, chunkText, chunkBook, chunkState, lastText, fits, ends, fedOf, fedMarks, fedAmounts, fedOut, finishedOf, endOut}
+use Rattle.intake.specs.Account.{printedOf}
+use Rattle.intake.specs.Desk.{startState, chunkText, chunkBook, chunkState, lastText, fedNumber, endNumber, fedOf, fedMarks, fedAmounts, fedOut, finishedOf, endOut}
 use Rattle.intake.specs.declared.State.{State}
 use Rattle.intake.specs.declared.Fed.{Fed}
 use Rattle.intake.specs.declared.Finished.{Finished}
+use Rattle.intake.proofs.Demand.{transcript-told}
 use Rattle.intake.proofs.Transcript.{joined, outputFrom, output-transcript}
 use Rattle.intake.proofs.feed.Reads as feed-reads
 use Rattle.intake.proofs.feed.Kinds as feed-kinds
@@ -69,40 +71,37 @@ unfolding put
 written-front out text = take-append-seam text _
 
 module _ (state : State) (chunk : List ℕ) (filled : List Bool) (amounts : List ℤ) (out : List ℕ) (z : fedOf state chunk filled amounts out .refusal ≡ 0) where
-  fit : fits state chunk filled amounts out ≡ true
+  fed-none : fedNumber state chunk filled amounts out ≡ 0
   unfolding fedOf
-  fit =
-      by-test (fits state chunk filled amounts out)
-      (λ (t : fits state chunk filled amounts out ≡ true). t)
-      (λ (t : fits state chunk filled amounts out ≡ false). let n : _≡_ {A = ℕ} 1 0 = rw t at z in absurd (omega arith))
+  fed-none =
+      sym (number-is (λ (r : Fed). r .refusal) (λ k. record { refusal = k; state = state; written = 0 }) (fedNumber state chunk filled amounts out) _ refl refl refl) ∙ z
 
   state-left : fedOf state chunk filled amounts out .state ≡ chunkState state chunk filled amounts
   unfolding fedOf
-  state-left = rw fit
+  state-left = ap (λ (r : Fed). r .state) (kept-new _ _ fed-none)
 
   marks-left : fedMarks state chunk filled amounts out ≡ chunkBook state chunk filled amounts .board .marks
   unfolding fedMarks
-  marks-left = rw fit
+  marks-left = kept-new _ filled fed-none
 
   items-left : fedAmounts state chunk filled amounts out ≡ chunkBook state chunk filled amounts .board .items
   unfolding fedAmounts
-  items-left = rw fit
+  items-left = kept-new _ amounts fed-none
 
   text-left : take (fedOf state chunk filled amounts out .written) (fedOut state chunk filled amounts out) ≡ chunkText state chunk filled amounts
   unfolding fedOf fedOut
-  text-left = rw fit (written-front out (chunkText state chunk filled amounts))
+  text-left =
+      ap₂ (λ (r : Fed) (o : List ℕ). take (r .written) o) (kept-new _ _ fed-none) (kept-new _ out fed-none) ∙ written-front out (chunkText state chunk filled amounts)
 
 module _ (state : State) (filled : List Bool) (amounts : List ℤ) (out : List ℕ) (z : finishedOf state filled amounts out .refusal ≡ 0) where
-  end-fit : ends state filled amounts out ≡ true
+  end-none : endNumber state filled amounts out ≡ 0
   unfolding finishedOf
-  end-fit =
-      by-test (ends state filled amounts out)
-      (λ (t : ends state filled amounts out ≡ true). t)
-      (λ (t : ends state filled amounts out ≡ false). let n : _≡_ {A = ℕ} 1 0 = rw t at z in absurd (omega arith))
+  end-none = sym (number-is (λ (r : Finished). r .refusal) (λ k. record { refusal = k; written = 0 }) (endNumber state filled amounts out) _ refl refl refl) ∙ z
 
   end-left : take (finishedOf state filled amounts out .written) (endOut state filled amounts out) ≡ lastText state filled amounts
   unfolding finishedOf endOut
-  end-left = rw end-fit (written-front out (lastText state filled amounts))
+  end-left =
+      ap₂ (λ (r : Finished) (o : List ℕ). take (r .written) o) (kept-new _ _ end-none) (kept-new _ out end-none) ∙ written-front out (lastText state filled amounts)
 
 -- ---- so each call is what the definitions say
 
@@ -156,3 +155,7 @@ printed-is (fed {cs = cs} {rest = rest} f more) =
 -- from the first state and a month's empty places, whatever meets the contracts prints the transcript of the chunks joined
 pub prints-transcript : (cs : List (List ℕ)) (text : List ℕ) → Prints startState (replicate 744 false) (replicate 744 (pos 0)) cs text → text ≡ transcript (joined cs)
 prints-transcript cs text p = printed-is p ∙ output-transcript cs
+
+-- and so the history of the input's frames: each line its number as the history rules, and then the total of that history
+pub prints-history : (cs : List (List ℕ)) (text : List ℕ) → Prints startState (replicate 744 false) (replicate 744 (pos 0)) cs text → text ≡ printedOf (joined cs)
+prints-history cs text p = prints-transcript cs text p ∙ transcript-told (joined cs)

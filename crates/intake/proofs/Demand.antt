@@ -1,18 +1,21 @@
--- Demand 3 through the program: after any lines the ledger tells what the history of the month's calls tells, so that the total printed is the
--- sum of what was last accepted for each hour and not withdrawn since, less the last accepted loss fee. From the theory of any ledger, by
--- induction on the lines. Assumes nothing.
-use Prim.Native.Nat.{ℕ}
-use mathlib.Core.Path.{_≡_}
-use mathlib.Core.Bool.{true, false, not}
-use mathlib.Core.List.{List, [], _∷_}
-use lib.Dec.{eqb, ltb}
+-- Demand 3 through the program: what it prints of an input is what the history of the input's frames tells, each line its number as the history rules and then the
+-- total of that history. The book goes on agreeing with the account, line by line: from the theory of any ledger. Assumes nothing.
+use Prim.Native.Nat.{ℕ, zero, suc, _+_, _≤_}
+use mathlib.Core.Path.{_≡_, refl, sym, ap, ap₂, _∙_, subst, subst⁻¹}
+use mathlib.Core.Bool.{true, false}
+use mathlib.Core.List.{List, [], _∷_, _++_}
+use mathlib.Core.Option.{Option, none, some}
+use native.Mathlib.Omega.{arith}
+use lib.Dec.{eqb}
 use lib.IntN.{ℤ}
+use lib.ListN.{take}
+use borrow.Author.Tests.{eqb-true, eq-eqb}
 use Rattle.whole.specs.Choice.{pick, kept}
 use Rattle.whole.proofs.Choice.{by-test, clash, passed}
-use borrow.Author.Tests.{eqb-true}
-use Rattle.history.specs.Rules.{Call}
-use Rattle.history.specs.Board.{rulingOn}
-use Rattle.history.specs.History.{Entry, Ruled, totalIs}
+use Rattle.history.specs.Rules.{Call, Sound}
+use Rattle.history.specs.Board.{fresh, rulingOn, handed, ruledIn, handedIn}
+use Rattle.history.specs.History.{Entry, Ruled, rulingAfter}
+use Rattle.history.proofs.Board.{good-refusal, good-left}
 use Rattle.history.proofs.Steps.{Told, entry, ruled, start-told, next-told}
 use Rattle.history.proofs.Readouts.{total-is}
 use Rattle.board.specs.Board.{Fee, Item, isDays, monthRules}
@@ -22,83 +25,132 @@ use Rattle.frame.specs.Frame.{readingOf}
 use Rattle.frame.specs.declared.Entry.{Entry as Framed}
 use Rattle.frame.specs.declared.Reading.{Reading}
 use Rattle.frame.specs.declared.Reading.the-variants.{Frame, Refused}
-use Rattle.intake.specs.Book.{Book, firstBook, callOf, openRefusal, openBook, callBook, frameBook, bookIn, mostLines, bookAfter, bookAfterAll, totalOf}
+use Rattle.intake.specs.Lines.{linesOf}
+use Rattle.intake.specs.Text.{answerText, totalText}
+use Rattle.intake.specs.Book.{Book, firstBook, callOf, openRefusal, openBook, callRefusal, callBook, frameRefusal, frameBook, readingRefusal, bookIn, counted, mostLines, answerTo, answersTo, bookAfter, bookAfterAll, totalOf, transcript}
+use Rattle.intake.specs.Account.{Account, firstAccount, openNumber, callNumber, callHistory, lineNumber, accountIn, accountAfter, linesTold, totalTold, linesRead, historyOf, printedOf}
+use Rattle.intake.proofs.Calls.{answered-one}
+use Rattle.intake.proofs.Kept.{ignored}
 
--- ---- the calls that lines come to, newest first, each with the number that it was answered
+-- the book agrees with the account: no month is open in either; or both have one of the same days, and its board tells the history, whose calls were all answered as
+-- document 01 rules
+abbrev pub Agrees : Option ℕ → List (Entry Fee Item) → Book → Type 0
+Agrees none h book = book .opened ≡ false
+Agrees (some days) h book = (book .opened ≡ true) × (book .days ≡ days) × (isDays days ≡ true) × Told (monthRules days) h (book .board) × Ruled (monthRules days) h
 
--- a call reaches the ledger where a month is open
-abbrev callHistory : Book → List (Entry Fee Item) → Call Fee Item → List (Entry Fee Item)
-callHistory book h c = pick (book .opened) (entry c (rulingOn (monthRules (book .days)) (book .board) c) ∷ h) h
+-- ---- a call
 
--- an open that is accepted begins it
-abbrev openHistory : Book → List (Entry Fee Item) → ℕ → List (Entry Fee Item)
-openHistory book h days = kept (openRefusal book days) [] h
+called-number : (book : Book) (month : Option ℕ) (h : List (Entry Fee Item)) (c : Call Fee Item) → Agrees month h book → callRefusal book c ≡ callNumber month h c
+unfolding callRefusal
+called-number book none h c g = rw g
+called-number book (some days) h c (o, d, i, t, r) =
+    let R = monthRules days in
+    rw (o, d) (good-refusal R (month-sound days i) (book .board) (t .good) c ∙ ruled R h (book .board) t c)
 
-abbrev frameHistory : Book → List (Entry Fee Item) → Framed → List (Entry Fee Item)
-frameHistory book h e = pick (eqb (e .kind) openKind) (openHistory book h (e .day)) (callHistory book h (callOf e))
-
-abbrev historyIn : Book → List (Entry Fee Item) → Reading → List (Entry Fee Item)
-historyIn book h (Frame e) = frameHistory book h e
-historyIn book h (Refused n) = h
-
-abbrev pub historyAfter : Book → List (Entry Fee Item) → List (List ℕ) → List (Entry Fee Item)
-historyAfter book h [] = h
-historyAfter book h (l ∷ ls) = historyAfter (bookAfter book l) (pick (ltb (book .count) mostLines) (historyIn book h (readingOf l)) h) ls
-
--- ---- the ledger tells it, and each call was answered as document 01 rules after those before it
-
-abbrev pub Tells : List (Entry Fee Item) → Book → Type 0
-Tells h book = book .opened ≡ true → (isDays (book .days) ≡ true) × Told (monthRules (book .days)) h (book .board) × Ruled (monthRules (book .days)) h
-
-call-tells : (book : Book) (h : List (Entry Fee Item)) (c : Call Fee Item) → Tells h book → Tells (callHistory book h c) (callBook book c)
+called-next : (book : Book) (month : Option ℕ) (h : List (Entry Fee Item)) (c : Call Fee Item) → Agrees month h book → Agrees month (callHistory month h c) (callBook book c)
 unfolding callBook
-call-tells book h c k =
-    by-test (book .opened)
-    (λ (o : book .opened ≡ true).
-    let g = k o in
-    rw o (λ _. (g .0, next-told (monthRules (book .days)) (month-sound (book .days) (g .0)) h (book .board) (g .1) c, (ruled (monthRules (book .days)) h (book .board) (g .1) c, g .2))))
-    (λ (o : book .opened ≡ false). rw o (λ e. clash e))
+called-next book none h c g = rw g
+called-next book (some days) h c (o, d, i, t, r) =
+    let R = monthRules days in
+    let sound = month-sound days i in
+    let number = ruled R h (book .board) t c in
+    let told = subst (λ (k : ℕ). Told R (entry c k ∷ h) (handed R (book .board) c)) number (next-told R sound h (book .board) t c) in
+    rw (o, d) (refl, refl, i, rw (good-left R sound (book .board) (t .good) c) told, (refl, r))
 
-open-tells : (book : Book) (h : List (Entry Fee Item)) (days : ℕ) → Tells h book → Tells (openHistory book h days) (openBook book days)
-unfolding openBook openRefusal
-open-tells book h days k =
+-- ---- an open
+
+opened-number : (book : Book) (month : Option ℕ) (h : List (Entry Fee Item)) (days : ℕ) → Agrees month h book → openRefusal book days ≡ openNumber month days
+unfolding openRefusal
+opened-number book none h days g = rw g
+opened-number book (some d) h days g = rw (g .0)
+
+opened-next : (book : Book) (a : Account) (days : ℕ) → Agrees (a .month) (a .history) book →
+    let next = kept (openNumber (a .month) days) (record { month = some days; history = [] }) a in
+    Agrees (next .month) (next .history) (openBook book days)
+unfolding openBook
+opened-next book a days g =
     by-test (eqb (openRefusal book days) 0)
     (λ (t : eqb (openRefusal book days) 0 ≡ true).
-    let p = passed (not (book .opened)) 13 _ (eqb-true (openRefusal book days) 0 t) in
-    let d = passed (isDays days) 5 0 (p .1) .0 in
-    rw t (λ _. (d, start-told (monthRules days) (month-sound days d), tt)))
-    (λ (t : eqb (openRefusal book days) 0 ≡ false). rw t k)
+    let n : openNumber (a .month) days ≡ 0 = sym number ∙ eqb-true (openRefusal book days) 0 t in
+    let i = opens (a .month) n in
+    rw (t, eq-eqb (openNumber (a .month) days) 0 n) (refl, refl, i, start-told (monthRules days) (month-sound days i), tt))
+    (λ (t : eqb (openRefusal book days) 0 ≡ false).
+    let n : eqb (openNumber (a .month) days) 0 ≡ false = ap (λ (k : ℕ). eqb k 0) (sym number) ∙ t in
+    rw (t, n) g)
+  where
+    number : openRefusal book days ≡ openNumber (a .month) days
+    number = opened-number book (a .month) (a .history) days g
 
-frame-tells : (book : Book) (h : List (Entry Fee Item)) (e : Framed) → Tells h book → Tells (frameHistory book h e) (frameBook book e)
+    opens : (month : Option ℕ) → openNumber month days ≡ 0 → isDays days ≡ true
+    opens none e = passed (isDays days) 5 0 e .0
+    opens (some d) e = absurd (omega arith)
+
+-- ---- a line
+
+line-number : (book : Book) (a : Account) (r : Reading) → Agrees (a .month) (a .history) book → readingRefusal book r ≡ lineNumber a r
+unfolding frameRefusal
+line-number book a (Frame e) g = ap₂ (pick (eqb (e .kind) openKind)) (opened-number book (a .month) (a .history) (e .day) g) (called-number book (a .month) (a .history) (callOf e) g)
+line-number book a (Refused n) g = refl
+
+line-next : (book : Book) (a : Account) (r : Reading) → Agrees (a .month) (a .history) book → Agrees (accountIn a r .month) (accountIn a r .history) (bookIn book r)
 unfolding frameBook
-frame-tells book h e k =
+line-next book a (Frame e) g =
     by-test (eqb (e .kind) openKind)
-    (λ (t : eqb (e .kind) openKind ≡ true). rw t (open-tells book h (e .day) k))
-    (λ (t : eqb (e .kind) openKind ≡ false). rw t (call-tells book h (callOf e) k))
+    (λ (t : eqb (e .kind) openKind ≡ true). rw t (opened-next book a (e .day) g))
+    (λ (t : eqb (e .kind) openKind ≡ false). rw t (called-next book (a .month) (a .history) (callOf e) g))
+line-next book a (Refused n) g = g
 
-in-tells : (book : Book) (h : List (Entry Fee Item)) (r : Reading) → Tells h book → Tells (historyIn book h r) (bookIn book r)
-in-tells book h (Frame e) k = frame-tells book h e k
-in-tells book h (Refused n) k = k
+-- that a line was counted is no part of it
+counted-agrees : (month : Option ℕ) (h : List (Entry Fee Item)) (n : ℕ) (book : Book) → Agrees month h book → Agrees month h (counted n book)
+counted-agrees none h n book g = g
+counted-agrees (some days) h n book g = g
 
-after-tells : (book : Book) (h : List (Entry Fee Item)) (l : List ℕ) → Tells h book → Tells (pick (ltb (book .count) mostLines) (historyIn book h (readingOf l)) h) (bookAfter book l)
-unfolding bookAfter
-after-tells book h l k =
-    by-test (ltb (book .count) mostLines)
-    (λ (t : ltb (book .count) mostLines ≡ true). rw t (in-tells book h (readingOf l) k))
-    (λ (t : ltb (book .count) mostLines ≡ false). rw t k)
+-- ---- all lines, of which k more are read
 
-all-tells : (book : Book) (h : List (Entry Fee Item)) (ls : List (List ℕ)) → Tells h book → Tells (historyAfter book h ls) (bookAfterAll book ls)
-all-tells book h [] k = k
-all-tells book h (l ∷ ls) k = all-tells (bookAfter book l) (pick (ltb (book .count) mostLines) (historyIn book h (readingOf l)) h) ls (after-tells book h l k)
+module _ (book : Book) (a : Account) (l : List ℕ) (k : ℕ) (e : book .count + suc k ≡ mostLines) (g : Agrees (a .month) (a .history) book) where
+  one : (answerTo book l ≡ answerText (book .count + 1) (lineNumber a (readingOf l))) × (bookAfter book l ≡ counted (book .count + 1) (bookIn book (readingOf l)))
+  one =
+      let d = answered-one book l (omega arith) in
+      (d .0 ∙ ap (answerText (book .count + 1)) (line-number book a (readingOf l) g), d .1)
 
-pub book-tells : (ls : List (List ℕ)) → Tells (historyAfter firstBook [] ls) (bookAfterAll firstBook ls)
-book-tells ls = all-tells firstBook [] ls (λ e. clash e)
+  next-count : bookAfter book l .count ≡ book .count + 1
+  next-count = ap (λ (b : Book). b .count) (one .1)
 
--- the total that is printed where a month was opened
-pub total-tells : (ls : List (List ℕ)) → bookAfterAll firstBook ls .opened ≡ true
-    → totalOf (bookAfterAll firstBook ls) ≡ totalIs (monthRules (bookAfterAll firstBook ls .days)) (historyAfter firstBook [] ls)
+  next-agrees : Agrees (accountIn a (readingOf l) .month) (accountIn a (readingOf l) .history) (bookAfter book l)
+  next-agrees =
+      subst⁻¹ (Agrees (accountIn a (readingOf l) .month) (accountIn a (readingOf l) .history)) (one .1)
+      (counted-agrees (accountIn a (readingOf l) .month) (accountIn a (readingOf l) .history) (book .count + 1) (bookIn book (readingOf l)) (line-next book a (readingOf l) g))
+
+lines-told : (book : Book) (a : Account) (ls : List (List ℕ)) (k : ℕ) → book .count + k ≡ mostLines → Agrees (a .month) (a .history) book
+    → (answersTo book ls ≡ linesTold (book .count) a (take k ls)) × Agrees (accountAfter a (take k ls) .month) (accountAfter a (take k ls) .history) (bookAfterAll book ls)
+lines-told book a ls zero e g =
+    let none = ignored book ls (omega arith) in
+    (none .0, subst⁻¹ (Agrees (a .month) (a .history)) (none .1) g)
+lines-told book a [] (suc k) e g = (refl, g)
+lines-told book a (l ∷ ls) (suc k) e g =
+    let n = next-count book a l k e g in
+    let rest = lines-told (bookAfter book l) (accountIn a (readingOf l)) ls k (omega arith) (next-agrees book a l k e g) in (
+      ap₂ _++_ (one book a l k e g .0) (rest .0 ∙ ap (λ (m : ℕ). linesTold m (accountIn a (readingOf l)) (take k ls)) n),
+      rest .1,
+    )
+
+total-told : (month : Option ℕ) (h : List (Entry Fee Item)) (book : Book) → Agrees month h book → totalOf book ≡ totalTold month h
 unfolding totalOf
-total-tells ls o =
-    let book = bookAfterAll firstBook ls in
-    let g = book-tells ls o in
-    rw o (total-is (monthRules (book .days)) (month-sound (book .days) (g .0)) (historyAfter firstBook [] ls) (book .board) (g .1))
+total-told none h book g = rw g
+total-told (some days) h book (o, d, i, t, r) = rw (o, d) (total-is (monthRules days) (month-sound days i) h (book .board) t)
+
+-- FROM AN INPUT'S BYTES TO DEMAND 3: the transcript is what the history of the input's frames tells
+pub transcript-told : (input : List ℕ) → transcript input ≡ printedOf input
+unfolding transcript printedOf historyOf
+transcript-told input =
+    let t = lines-told firstBook firstAccount (linesOf input) mostLines refl refl in
+    ap₂ (λ (s : List ℕ) (z : ℤ). s ++ totalText z) (t .0) (total-told (historyOf input .month) (historyOf input .history) (bookAfterAll firstBook (linesOf input)) (t .1))
+
+-- and every call of that history was answered as document 01 rules after those before it
+pub history-ruled : (input : List ℕ) (days : ℕ) → historyOf input .month ≡ some days → Ruled (monthRules days) (historyOf input .history)
+unfolding historyOf
+history-ruled input days m = go _ m (lines-told firstBook firstAccount (linesOf input) mostLines refl refl .1)
+  where
+    go : (month : Option ℕ) → month ≡ some days → Agrees month (historyOf input .history) (bookAfterAll firstBook (linesOf input)) → Ruled (monthRules days) (historyOf input .history)
+    go none e g = let z : _≡_ {A = ℕ} 0 1 = cc in absurd (omega arith)
+    go (some d) e g = let same : d ≡ days = cc in subst (λ (n : ℕ). Ruled (monthRules n) (historyOf input .history)) same (g .4)

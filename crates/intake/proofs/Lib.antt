@@ -5,8 +5,8 @@ mod Cutting
 mod Calls
 mod Going
 mod Totals
+pub mod Kept
 pub mod Demand
-pub mod Good
 pub mod Transcript
 pub mod Contracts
 mod Determined

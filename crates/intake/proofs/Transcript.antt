@@ -1,6 +1,6 @@
 -- The program's whole output is the transcript of its whole input, however the input was cut into chunks. By induction on the chunks. Assumes
 -- nothing.
-use Prim.Native.Nat.{ℕ}
+use Prim.Native.Nat.{ℕ, suc, _+_, _≤_, _<_}
 use mathlib.Core.Path.{_≡_, refl, sym, ap, ap₂, _∙_}
 use mathlib.Core.Bool.{Bool, true, false}
 use mathlib.Core.List.{List, [], _∷_, _++_, map, append-assoc}
@@ -12,14 +12,15 @@ use borrow.Author.Tests.{eq-eqb, ne-eqb, ltb-true, ltb-false}
 use Rattle.whole.specs.Choice.{pick}
 use Rattle.whole.proofs.Choice.{by-test}
 use Rattle.history.specs.Board.{fresh}
-use Rattle.intake.specs.Lines.{lineEnd, linesAfter, linesOf}
+use Rattle.intake.specs.Lines.{lineEnd, linesAfter, linesOf, lineEnds}
 use Rattle.intake.specs.Text.{totalText}
-use Rattle.intake.specs.Book.{Book, firstBook, answerTo, bookAfter, answersTo, bookAfterAll, transcript}
-use Rattle.intake.specs.Desk.{heldIn, emptyLine, pushed, linesIn, leftIn, lastIn, bookOf, startState, chunkText, chunkBook, chunkState, lastText, settled}
+use Rattle.intake.specs.Book.{Book, firstBook, mostLines, answerTo, bookAfter, answersTo, bookAfterAll, totalOf, transcript}
+use Rattle.intake.specs.Desk.{heldIn, emptyLine, pushed, linesIn, leftIn, lastIn, bookOf, startState, chunkText, chunkBook, chunkState, lastText}
 use Rattle.intake.specs.declared.Line.{Line}
 use Rattle.intake.specs.declared.State.{State}
 use Rattle.intake.proofs.Cutting.{Shows, shows-empty, shows-push, reading-kept}
-use Rattle.intake.proofs.Good.{book-kept, settled-total}
+use Rattle.intake.proofs.Calls.{answered-none, answered-one}
+use Rattle.intake.proofs.Kept.{ignored}
 
 -- ---- lines, one chunk after the other
 
@@ -119,12 +120,12 @@ outputFrom state filled amounts (c ∷ cs) =
     ++ outputFrom (chunkState state c filled amounts) (chunkBook state c filled amounts .board .marks) (chunkBook state c filled amounts .board .items) cs
 
 abbrev endsWith : Book → List (List ℕ) → List ℕ
-endsWith book ls = answersTo book ls ++ totalText (settled (bookAfterAll book ls))
+endsWith book ls = answersTo book ls ++ totalText (totalOf (bookAfterAll book ls))
 
 ends-append : (book : Book) (ls ms : List (List ℕ)) → endsWith book (ls ++ ms) ≡ answersTo book ls ++ endsWith (bookAfterAll book ls) ms
 ends-append book ls ms =
-    ap₂ (λ (s : List ℕ) (b : Book). s ++ totalText (settled b)) (answers-append book ls ms) (books-append book ls ms)
-    ∙ append-assoc (answersTo book ls) (answersTo (bookAfterAll book ls) ms) (totalText (settled (bookAfterAll (bookAfterAll book ls) ms)))
+    ap₂ (λ (s : List ℕ) (b : Book). s ++ totalText (totalOf b)) (answers-append book ls ms) (books-append book ls ms)
+    ∙ append-assoc (answersTo book ls) (answersTo (bookAfterAll book ls) ms) (totalText (totalOf (bookAfterAll (bookAfterAll book ls) ms)))
 
 from-append : (l : Line) (xs ys : List ℕ) → linesFrom l (xs ++ ys) ≡ linesIn l xs ++ linesFrom (leftIn l xs) ys
 from-append l xs ys = rw (lines-append l xs ys, left-append l xs ys, append-assoc)
@@ -139,12 +140,57 @@ output-is state filled amounts (c ∷ cs) =
     (output-is (chunkState state c filled amounts) (chunkBook state c filled amounts .board .marks) (chunkBook state c filled amounts .board .items) cs)
     ∙ sym (ap (endsWith book) (from-append (state .line) c (joined cs)) ∙ ends-append book ls (linesFrom (leftIn (state .line) c) (joined cs)))
 
+-- a transcript, by the lines as they are kept
+kept-transcript : (input : List ℕ) → endsWith firstBook (linesFrom emptyLine input) ≡ transcript input
+unfolding transcript
+kept-transcript input =
+    ap (endsWith firstBook) (whole emptyLine [] input shows-empty)
+    ∙ ap₂ (λ (s : List ℕ) (b : Book). s ++ totalText (totalOf b)) (answers-kept firstBook (linesOf input)) (books-kept firstBook (linesOf input))
+
 -- "Given .. it prints": from the first state and a month's empty places, any cutting of an input gives its transcript
 pub output-transcript : (cs : List (List ℕ)) → outputFrom startState (replicate 744 false) (replicate 744 (pos 0)) cs ≡ transcript (joined cs)
-unfolding startState transcript fresh
-output-transcript cs =
-    let input = joined cs in
-    output-is startState (replicate 744 false) (replicate 744 (pos 0)) cs
-    ∙ ap (endsWith firstBook) (whole emptyLine [] input shows-empty)
-    ∙ ap₂ (λ (s : List ℕ) (b : Book). s ++ totalText (settled b)) (answers-kept firstBook (linesOf input)) (books-kept firstBook (linesOf input))
-    ∙ ap (λ (z : ℤ). answersTo firstBook (linesOf input) ++ totalText z) (settled-total (bookAfterAll firstBook (linesOf input)) (book-kept (linesOf input)))
+unfolding startState fresh
+output-transcript cs = output-is startState (replicate 744 false) (replicate 744 (pos 0)) cs ∙ kept-transcript (joined cs)
+
+-- ---- "It reads at most 1,000,000 lines and ignores the rest": once they have ended no further byte changes the transcript, also inside a line
+
+ended-lines : (l : Line) (xs : List ℕ) → length (linesIn l xs) ≡ lineEnds xs
+ended-lines l [] = refl
+ended-lines l (x ∷ xs) =
+    by-test (eqb x lineEnd)
+    (λ (t : eqb x lineEnd ≡ true). rw t (ap suc (ended-lines emptyLine xs)))
+    (λ (t : eqb x lineEnd ≡ false). rw t (ended-lines (pushed l x) xs))
+
+count-next : (book : Book) (l : List ℕ) → (mostLines ≤ book .count → mostLines ≤ bookAfter book l .count) × (book .count < mostLines → bookAfter book l .count ≡ book .count + 1)
+count-next book l = (
+  λ h. let n = ap (λ (b : Book). b .count) (answered-none book l h .1) in omega arith,
+  λ h. ap (λ (b : Book). b .count) (answered-one book l h .1),
+)
+
+count-all : (book : Book) (ls : List (List ℕ)) → mostLines ≤ book .count + length ls → mostLines ≤ bookAfterAll book ls .count
+count-all book [] h = omega arith
+count-all book (l ∷ ls) h =
+    by-test (ltb (book .count) mostLines)
+    (λ (t : ltb (book .count) mostLines ≡ true).
+    let n = count-next book l .1 (ltb-true (book .count) mostLines t) in count-all (bookAfter book l) ls (omega arith))
+    (λ (t : ltb (book .count) mostLines ≡ false).
+    let n = count-next book l .0 (ltb-false (book .count) mostLines t) in count-all (bookAfter book l) ls (omega arith))
+
+-- what the lines that ended have printed, and the total
+ended-with : (xs : List ℕ) (ms : List (List ℕ)) → mostLines ≤ lineEnds xs →
+    let done = linesIn emptyLine xs in
+    endsWith firstBook (done ++ ms) ≡ answersTo firstBook done ++ totalText (totalOf (bookAfterAll firstBook done))
+ended-with xs ms h =
+    let done = linesIn emptyLine xs in
+    let book = bookAfterAll firstBook done in
+    let i = ignored book ms (count-all firstBook done (omega (arith, ended-lines emptyLine xs))) in
+    ends-append firstBook done ms
+    ∙ ap₂ (λ (s : List ℕ) (b : Book). answersTo firstBook done ++ (s ++ totalText (totalOf b))) (i .0) (i .1)
+
+pub ended : (xs ys : List ℕ) → mostLines ≤ lineEnds xs → transcript (xs ++ ys) ≡ transcript xs
+ended xs ys h =
+    sym (kept-transcript (xs ++ ys))
+    ∙ ap (endsWith firstBook) (from-append emptyLine xs ys)
+    ∙ ended-with xs (linesFrom (leftIn emptyLine xs) ys) h
+    ∙ sym (ended-with xs (lastIn (leftIn emptyLine xs)) h)
+    ∙ kept-transcript xs

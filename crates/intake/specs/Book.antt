@@ -7,7 +7,7 @@ use lib.IntN.{ℤ, pos}
 use Rattle.whole.specs.Choice.{pick, unless, kept}
 use Rattle.units.specs.Refusals.{notOpen, notInMonth}
 use Rattle.history.specs.Rules.{Call, post, replace, withdraw, lossFee, close}
-use Rattle.history.specs.Board.{Board, fresh, rulingOn, handed, totalOn}
+use Rattle.history.specs.Board.{Board, fresh, ruledIn, handedIn, totalOn}
 use Rattle.board.specs.Board.{Fee, Item, amountItem, isDays, monthRules}
 use Rattle.frame.specs.Kinds.{openKind, postKind, replaceKind, withdrawKind, lossFeeKind}
 use Rattle.frame.specs.Frame.{readingOf}
@@ -52,12 +52,12 @@ openBook book days =
 
 -- any other frame: 14 before a month is open, then the ledger's
 unfoldable pub callRefusal : Book → Call Fee Item → ℕ
-callRefusal book c = unless (book .opened) notOpen (rulingOn (monthRules (book .days)) (book .board) c)
+callRefusal book c = unless (book .opened) notOpen (ruledIn (monthRules (book .days)) (book .board) c)
 
 unfoldable pub callBook : Book → Call Fee Item → Book
 callBook book c =
     pick (book .opened)
-    (record { count = book .count; opened = book .opened; days = book .days; board = handed (monthRules (book .days)) (book .board) c }) book
+    (record { count = book .count; opened = book .opened; days = book .days; board = handedIn (monthRules (book .days)) (book .board) c }) book
 
 unfoldable pub frameRefusal : Book → Entry → ℕ
 frameRefusal book e = pick (eqb (e .kind) openKind) (openRefusal book (e .day)) (callRefusal book (callOf e))
@@ -68,9 +68,9 @@ frameBook book e = pick (eqb (e .kind) openKind) (openBook book (e .day)) (callB
 -- ---- one line
 
 -- "A line that doesn't read as a frame never reaches the ledger."
-abbrev pub refusalIn : Book → Reading → ℕ
-refusalIn book (Frame e) = frameRefusal book e
-refusalIn book (Refused n) = n
+abbrev pub readingRefusal : Book → Reading → ℕ
+readingRefusal book (Frame e) = frameRefusal book e
+readingRefusal book (Refused n) = n
 
 abbrev pub bookIn : Book → Reading → Book
 bookIn book (Frame e) = frameBook book e
@@ -80,7 +80,7 @@ abbrev pub counted : ℕ → Book → Book
 counted n book = record { count = n; opened = book .opened; days = book .days; board = book .board }
 
 unfoldable pub answerTo : Book → List ℕ → List ℕ
-answerTo book line = pick (ltb (book .count) mostLines) (answerText (book .count + 1) (refusalIn book (readingOf line))) []
+answerTo book line = pick (ltb (book .count) mostLines) (answerText (book .count + 1) (readingRefusal book (readingOf line))) []
 
 unfoldable pub bookAfter : Book → List ℕ → Book
 bookAfter book line = pick (ltb (book .count) mostLines) (counted (book .count + 1) (bookIn book (readingOf line))) book

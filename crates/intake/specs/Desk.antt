@@ -6,18 +6,19 @@ use mathlib.Core.List.{List, [], _∷_, _++_}
 use lib.Dec.{ltb, leb, eqb}
 use lib.IntN.{ℤ, pos, _-ℤ_}
 use lib.ListN.{length, take, set, replicate}
-use Rattle.whole.specs.Choice.{pick}
+use Rattle.whole.specs.Choice.{pick, unless, kept}
 use Rattle.whole.specs.Whole.{summed, inRange}
 use Rattle.units.specs.Refusals.{wrongLength}
 use Rattle.history.specs.Rules.{Call, lossFee, close}
-use Rattle.board.specs.Board.{Fee, Item, dollars, boardIn, headedOf}
+use Rattle.history.specs.Board.{runsFit, ledgerRefusal}
+use Rattle.board.specs.Board.{Fee, Item, monthRules, dollars, boardIn, headedOf}
 use Rattle.frame.specs.Kinds.{lossFeeKind}
 use Rattle.frame.specs.declared.Reading.{Reading}
 use Rattle.frame.specs.declared.Reading.the-variants.{Frame, Refused}
 use Rattle.intake.specs.Lines.{lineEnd}
 use Rattle.text.specs.Text.{put}
 use Rattle.intake.specs.Text.{totalText}
-use Rattle.intake.specs.Book.{Book, answersTo, bookAfterAll}
+use Rattle.intake.specs.Book.{Book, answersTo, bookAfterAll, totalOf}
 use Rattle.intake.specs.declared.Line.{Line}
 use Rattle.intake.specs.declared.Desk.{Desk}
 use Rattle.intake.specs.declared.State.{State}
@@ -87,11 +88,18 @@ headTaken desk c =
       desk = record { count = desk .count; opened = desk .opened; head = headedOf (desk .head) c .head };
     }
 
+-- ---- what is handed in: 1 for a run that is not the ledger's, 22 for an opened ledger that no run of calls hands back
+
+abbrev pub bookRefusal : Book → ℕ
+bookRefusal book =
+    let R = monthRules (book .days) in
+    pick (book .opened) (ledgerRefusal R (book .board)) (unless (runsFit R (book .board)) wrongLength 0)
+
 -- ---- a chunk
 
--- room for twelve bytes of answer for each byte, and two runs of 744 places
-unfoldable pub chunkFits : ℕ → ℕ → ℕ → ℕ → Bool
-chunkFits chunk filled amounts out = leb chunk (out / 12) && eqb filled 744 && eqb amounts 744
+-- room for twelve bytes of answer for each byte: 1; then what the state shows
+unfoldable pub feedRefusal : Book → ℕ → ℕ → ℕ
+feedRefusal book chunk out = unless (leb chunk (out / 12)) wrongLength (bookRefusal book)
 
 module _ (state : State) (chunk : List ℕ) (filled : List Bool) (amounts : List ℤ) where
   abbrev pub chunkText : List ℕ
@@ -104,28 +112,28 @@ module _ (state : State) (chunk : List ℕ) (filled : List Bool) (amounts : List
   chunkState = record { desk = deskOf chunkBook; line = leftIn (state .line) chunk }
 
   module _ (out : List ℕ) where
-    abbrev pub fits : Bool
-    fits = chunkFits (length chunk) (length filled) (length amounts) (length out)
+    abbrev pub fedNumber : ℕ
+    fedNumber = feedRefusal (bookOf (state .desk) filled amounts) (length chunk) (length out)
 
-    -- the answer and what is left in the runs; refused with 1, and then nothing is changed
+    -- the answer and what is left in the runs; a refusal changes nothing
     unfoldable pub fedOf : Fed
     fedOf =
-        pick fits
+        kept fedNumber
         (record { refusal = 0; state = chunkState; written = length chunkText })
-        (record { refusal = wrongLength; state = state; written = 0 })
+        (record { refusal = fedNumber; state = state; written = 0 })
 
     unfoldable pub fedMarks : List Bool
-    fedMarks = pick fits (chunkBook .board .marks) filled
+    fedMarks = kept fedNumber (chunkBook .board .marks) filled
 
     unfoldable pub fedAmounts : List ℤ
-    fedAmounts = pick fits (chunkBook .board .items) amounts
+    fedAmounts = kept fedNumber (chunkBook .board .items) amounts
 
     unfoldable pub fedOut : List ℕ
-    fedOut = pick fits (put out 0 chunkText) out
+    fedOut = kept fedNumber (put out 0 chunkText) out
 
 -- ---- the input's end
 
--- the total of any book whatever: 0 where the fee is none or the amounts cannot be summed (on a ledger that calls have left, it is the month total)
+-- the total of any book whatever: 0 where the fee is none or the amounts cannot be summed. On a ledger that calls have left it is the month total, and `finish` refuses any other.
 unfoldable pub settledIn : Desk → List ℤ → ℤ
 settledIn desk amounts =
     pick (desk .opened && inRange (pos 0) (pos 100000000000) (desk .head .fee .0)) (summed amounts .sum -ℤ desk .head .fee .0) (pos 0)
@@ -133,9 +141,9 @@ settledIn desk amounts =
 abbrev pub settled : Book → ℤ
 settled book = settledIn (deskOf book) (book .board .items)
 
--- room for an answer and the total, and two runs of 744 places
-unfoldable pub endFits : ℕ → ℕ → ℕ → Bool
-endFits filled amounts out = leb 40 out && eqb filled 744 && eqb amounts 744
+-- room for an answer and the total: 1; then what the state shows
+unfoldable pub endRefusal : Book → ℕ → ℕ
+endRefusal book out = unless (leb 40 out) wrongLength (bookRefusal book)
 
 module _ (state : State) (filled : List Bool) (amounts : List ℤ) where
   abbrev pub lastBook : Book
@@ -145,20 +153,20 @@ module _ (state : State) (filled : List Bool) (amounts : List ℤ) where
   lastAnswer = answersTo (bookOf (state .desk) filled amounts) (lastIn (state .line))
 
   abbrev pub lastText : List ℕ
-  lastText = lastAnswer ++ totalText (settled lastBook)
+  lastText = lastAnswer ++ totalText (totalOf lastBook)
 
   module _ (out : List ℕ) where
-    abbrev pub ends : Bool
-    ends = endFits (length filled) (length amounts) (length out)
+    abbrev pub endNumber : ℕ
+    endNumber = endRefusal (bookOf (state .desk) filled amounts) (length out)
 
     unfoldable pub finishedOf : Finished
-    finishedOf = pick ends (record { refusal = 0; written = length lastText }) (record { refusal = wrongLength; written = 0 })
+    finishedOf = kept endNumber (record { refusal = 0; written = length lastText }) (record { refusal = endNumber; written = 0 })
 
     unfoldable pub endMarks : List Bool
-    endMarks = pick ends (lastBook .board .marks) filled
+    endMarks = kept endNumber (lastBook .board .marks) filled
 
     unfoldable pub endAmounts : List ℤ
-    endAmounts = pick ends (lastBook .board .items) amounts
+    endAmounts = kept endNumber (lastBook .board .items) amounts
 
     unfoldable pub endOut : List ℕ
-    endOut = pick ends (put out 0 lastText) out
+    endOut = kept endNumber (put out 0 lastText) out

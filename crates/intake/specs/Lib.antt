@@ -2,4 +2,5 @@
 pub mod Lines
 pub mod Text
 pub mod Book
+pub mod Account
 pub mod Desk

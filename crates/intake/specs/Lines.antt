@@ -1,5 +1,5 @@
 -- Document 01, "Frames": "A line end is the byte 0A"; "a last line without one counts if it has a byte".
-use Prim.Native.Nat.{ℕ}
+use Prim.Native.Nat.{ℕ, suc}
 use mathlib.Core.List.{List, [], _∷_, _++_}
 use lib.Dec.{eqb}
 use lib.ListN.{length}
@@ -20,3 +20,8 @@ linesOf input = linesAfter [] input
 abbrev pub beforeEnd : List ℕ → List ℕ
 beforeEnd [] = []
 beforeEnd (b ∷ bs) = pick (eqb b lineEnd) [] (b ∷ beforeEnd bs)
+
+-- how many lines have ended
+abbrev pub lineEnds : List ℕ → ℕ
+lineEnds [] = 0
+lineEnds (b ∷ bs) = pick (eqb b lineEnd) (suc (lineEnds bs)) (lineEnds bs)

@@ -11,8 +11,8 @@ ghost use Rattle.whole.specs.Choice.{unless};
 ghost use Rattle.units.specs.Refusals.{notOpen, notInMonth};
 ghost use Rattle.board.specs.Board.{dollars, isDays};
 ghost use Rattle.frame.specs.Frame.{readingOf};
-ghost use Rattle.intake.specs.Book.{openRefusal, openBook, callRefusal, callBook, callOf, frameRefusal, frameBook, refusalIn, bookIn, answerTo, bookAfter};
-ghost use Rattle.intake.specs.Desk.{heldIn, keptIn, bookOf, headCall, headTaken, refusalNumber, settledIn, startState, chunkFits, chunkText, chunkBook, chunkState, fedOf, fedMarks, fedAmounts, fedOut, lastBook, lastAnswer, lastText, endFits, finishedOf, endMarks, endAmounts, endOut};
+ghost use Rattle.intake.specs.Book.{openRefusal, openBook, callRefusal, callBook, callOf, frameRefusal, frameBook, readingRefusal, bookIn, answerTo, bookAfter};
+ghost use Rattle.intake.specs.Desk.{heldIn, keptIn, bookOf, headCall, headTaken, refusalNumber, settledIn, startState, bookRefusal, feedRefusal, chunkText, chunkBook, chunkState, fedOf, fedMarks, fedAmounts, fedOut, lastBook, lastAnswer, lastText, endRefusal, finishedOf, endMarks, endAmounts, endOut};
 use board::Head;
 use board::Headed;
 use frame::Entry;
@@ -133,6 +133,8 @@ fn open_month(desk: Desk, days: u8, filled: &mut [bool], amounts: &mut [i64]) ->
 
 // Any other frame: 14, then the ledger's.
 fn call_month(desk: Desk, entry: Entry, filled: &mut [bool], amounts: &mut [i64]) -> Taken
+    requires { ⌜ length (now filled) ≡ 744 ⌝ }
+    requires { ⌜ length (now amounts) ≡ 744 ⌝ }
     ensures number { λ r. ⌜ r .refusal ≡ callRefusal (bookOf desk (now (filled .entry)) (now (amounts .entry))) (callOf entry) ⌝ }
     ensures book { λ r. ⌜ bookOf (r .desk) (now (filled .exit)) (now (amounts .exit)) ≡ callBook (bookOf desk (now (filled .entry)) (now (amounts .entry))) (callOf entry) ⌝ }
 {
@@ -198,7 +200,7 @@ fn refusal_of(got: Reading) -> u8
 fn take_line(desk: Desk, line: &[u8], filled: &mut [bool], amounts: &mut [i64]) -> Taken
     requires { ⌜ length (now filled) ≡ 744 ⌝ }
     requires { ⌜ length (now amounts) ≡ 744 ⌝ }
-    ensures number { λ r. ⌜ r .refusal ≡ refusalIn (bookOf desk (now (filled .entry)) (now (amounts .entry))) (readingOf (now (line .entry))) ⌝ }
+    ensures number { λ r. ⌜ r .refusal ≡ readingRefusal (bookOf desk (now (filled .entry)) (now (amounts .entry))) (readingOf (now (line .entry))) ⌝ }
     ensures book { λ r. ⌜ bookOf (r .desk) (now (filled .exit)) (now (amounts .exit)) ≡ bookIn (bookOf desk (now (filled .entry)) (now (amounts .entry))) (readingOf (now (line .entry))) ⌝ }
 {
     let got = frame::read_frame(line);
@@ -227,7 +229,7 @@ fn take_frame(desk: Desk, entry: Entry, filled: &mut [bool], amounts: &mut [i64]
 fn end_line(desk: Desk, line: Line, rest: &[u8], filled: &mut [bool], amounts: &mut [i64]) -> Taken
     requires { ⌜ length (now filled) ≡ 744 ⌝ }
     requires { ⌜ length (now amounts) ≡ 744 ⌝ }
-    ensures number { λ r. ⌜ r .refusal ≡ refusalIn (bookOf desk (now (filled .entry)) (now (amounts .entry))) (readingOf (heldIn (keptIn line (now (rest .entry))))) ⌝ }
+    ensures number { λ r. ⌜ r .refusal ≡ readingRefusal (bookOf desk (now (filled .entry)) (now (amounts .entry))) (readingOf (heldIn (keptIn line (now (rest .entry))))) ⌝ }
     ensures book { λ r. ⌜ bookOf (r .desk) (now (filled .exit)) (now (amounts .exit)) ≡ bookIn (bookOf desk (now (filled .entry)) (now (amounts .entry))) (readingOf (heldIn (keptIn line (now (rest .entry))))) ⌝ }
 {
     if line.len == 0 {
@@ -330,13 +332,33 @@ pub fn start() -> State
     }
 }
 
-fn chunk_fits(chunk: usize, filled: usize, amounts: usize, out: usize) -> bool
-    ensures { λ r. ⌜ r ≡ chunkFits chunk filled amounts out ⌝ }
+// 1 for a run that is not the ledger's, 22 for an opened ledger that no run of calls hands back.
+fn book_refusal<'a>(desk: Desk, filled: &'a [bool], amounts: &'a [i64]) -> u8
+    ensures { λ r. ⌜ r ≡ bookRefusal (bookOf desk (now (filled .entry)) (now (amounts .entry))) ⌝ }
 {
-    (chunk <= out / 12) & (filled == 744) & (amounts == 744)
+    if desk.opened {
+        let head = desk.head;
+        return board::check_in(head, filled, amounts);
+    }
+    let runs = (filled.len() == board::PLACES) & (amounts.len() == board::PLACES);
+    whole::unless(runs, refusals::WRONG_LENGTH, 0)
 }
 
-// Answers the lines that end in a chunk into out; or answers 1 and changes nothing.
+// Room for twelve bytes of answer for each byte, then the state.
+fn feed_refusal<'a>(
+    desk: Desk,
+    chunk: usize,
+    filled: &'a [bool],
+    amounts: &'a [i64],
+    out: usize,
+) -> u8
+    ensures { λ r. ⌜ r ≡ feedRefusal (bookOf desk (now (filled .entry)) (now (amounts .entry))) chunk out ⌝ }
+{
+    let state = book_refusal(desk, filled, amounts);
+    whole::unless(chunk <= out / 12, refusals::WRONG_LENGTH, state)
+}
+
+// Answers the lines that end in a chunk into out; or answers 1 or 22 and changes nothing.
 pub fn feed(
     state: State,
     chunk: &[u8],
@@ -350,9 +372,11 @@ pub fn feed(
     ensures text { λ r. ⌜ now (out .exit) ≡ fedOut state (now (chunk .entry)) (now (filled .entry)) (now (amounts .entry)) (now (out .entry)) ⌝ }
     ensures room { λ r. ⌜ r .written ≤ length (now (out .entry)) ⌝ }
 {
-    if !chunk_fits(chunk.len(), filled.len(), amounts.len(), out.len()) {
+    let desk = state.desk;
+    let k = feed_refusal(desk, chunk.len(), filled, amounts, out.len());
+    if k != 0 {
         return Fed {
-            refusal: refusals::WRONG_LENGTH,
+            refusal: k,
             state,
             written: 0,
         };
@@ -396,8 +420,7 @@ fn last_line(state: State, filled: &mut [bool], amounts: &mut [i64], out: &mut [
 // The last line and the total.
 fn finish_all(state: State, filled: &mut [bool], amounts: &mut [i64], out: &mut [u8]) -> Finished
     requires { ⌜ 40 ≤ length (now out) ⌝ }
-    requires { ⌜ length (now filled) ≡ 744 ⌝ }
-    requires { ⌜ length (now amounts) ≡ 744 ⌝ }
+    requires { ⌜ bookRefusal (bookOf (state .desk) (now filled) (now amounts)) ≡ 0 ⌝ }
     ensures answers { λ r. ⌜ r ≡ record { refusal = 0; written = length (lastText state (now (filled .entry)) (now (amounts .entry))) } ⌝ }
     ensures marks { λ r. ⌜ now (filled .exit) ≡ lastBook state (now (filled .entry)) (now (amounts .entry)) .board .marks ⌝ }
     ensures items { λ r. ⌜ now (amounts .exit) ≡ lastBook state (now (filled .entry)) (now (amounts .entry)) .board .items ⌝ }
@@ -414,13 +437,15 @@ fn finish_all(state: State, filled: &mut [bool], amounts: &mut [i64], out: &mut 
     }
 }
 
-fn end_fits(filled: usize, amounts: usize, out: usize) -> bool
-    ensures { λ r. ⌜ r ≡ endFits filled amounts out ⌝ }
+// Room for an answer and the total, then the state.
+fn end_refusal<'a>(desk: Desk, filled: &'a [bool], amounts: &'a [i64], out: usize) -> u8
+    ensures { λ r. ⌜ r ≡ endRefusal (bookOf desk (now (filled .entry)) (now (amounts .entry))) out ⌝ }
 {
-    (40 <= out) & (filled == 744) & (amounts == 744)
+    let state = book_refusal(desk, filled, amounts);
+    whole::unless(40 <= out, refusals::WRONG_LENGTH, state)
 }
 
-// Answers a last line without its end, and writes the total, into out; or answers 1 and changes nothing.
+// Answers a last line without its end, and writes the total, into out; or answers 1 or 22 and changes nothing.
 pub fn finish(state: State, filled: &mut [bool], amounts: &mut [i64], out: &mut [u8]) -> Finished
     ensures answers { λ r. ⌜ r ≡ finishedOf state (now (filled .entry)) (now (amounts .entry)) (now (out .entry)) ⌝ }
     ensures marks { λ r. ⌜ now (filled .exit) ≡ endMarks state (now (filled .entry)) (now (amounts .entry)) (now (out .entry)) ⌝ }
@@ -428,9 +453,11 @@ pub fn finish(state: State, filled: &mut [bool], amounts: &mut [i64], out: &mut 
     ensures text { λ r. ⌜ now (out .exit) ≡ endOut state (now (filled .entry)) (now (amounts .entry)) (now (out .entry)) ⌝ }
     ensures room { λ r. ⌜ r .written ≤ length (now (out .entry)) ⌝ }
 {
-    if !end_fits(filled.len(), amounts.len(), out.len()) {
+    let desk = state.desk;
+    let k = end_refusal(desk, filled, amounts, out.len());
+    if k != 0 {
         return Finished {
-            refusal: refusals::WRONG_LENGTH,
+            refusal: k,
             written: 0,
         };
     }

@@ -9,7 +9,7 @@ use mir.Val.{boolByte}
 use lib.IntN.{ℤ}
 use Rattle.whole.specs.Choice.{pick}
 use Rattle.history.specs.Rules.{Call}
-use Rattle.history.specs.Board.{wellFormed, refusalOf, nextOf, refusalIn, leftIn}
+use Rattle.history.specs.Board.{wellFormed, refusalOf, nextOf, ruledIn, handedIn}
 use Rattle.history.proofs.Board.{Good, good-refusal, good-left}
 use Rattle.units.specs.Refusals.{notReachable}
 use Rattle.board.specs.Board.{Fee, Item, boardIn}
@@ -25,7 +25,7 @@ answer-22 m c w = rw w
 
 -- a month put together from what a call in place answered and left: on a ledger in form it is refused for nothing but the ruling
 pub answer-in : (m : Month) (c : Call Fee Item) (k : ℕ) (head : Head) (gs : List Bool) (ys : List ℤ) → wellFormed (rulesOf m) (boardOf m) ≡ true → Good (rulesOf m) (boardOf m)
-    → k ≡ refusalIn (rulesOf m) (boardOf m) c → boardIn head gs ys ≡ leftIn (rulesOf m) (boardOf m) c → head .days ≡ m .days → bookedOf k head gs ys ≡ answerOf m c
+    → k ≡ ruledIn (rulesOf m) (boardOf m) c → boardIn head gs ys ≡ handedIn (rulesOf m) (boardOf m) c → head .days ≡ m .days → bookedOf k head gs ys ≡ answerOf m c
 unfolding answerOf refusalOf nextOf
 answer-in m c k head gs ys w g number board days =
     let sound = month-sound (m .days) (well-days m w) in

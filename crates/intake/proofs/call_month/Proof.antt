@@ -71,8 +71,9 @@ returns-5 : tie.Need-returns-5
 returns-5 c = let t = c .before in
     let e = t .before .before .before .before .before in
     let a = e .before .before .before .args in
+    let p = e .before .before .before .pre in
     rw (call-head (a .entry) (t .before .before .if2 .left) (t .before .if3 .left) (t .if4 .left), c .call-head .ensures)
-    (called-head (a .desk) (a .filled .now) (a .amounts .now) _ (opened e) (head-heads (a .desk .head) (a .filled .now) (a .amounts .now) (a .entry .kind) (a .entry .amount .0)))
+    (called-head (a .desk) (a .filled .now) (a .amounts .now) _ (opened e) (head-heads (a .desk .head) (a .filled .now) (a .amounts .now) (a .entry .kind) (a .entry .amount .0) (p .0) (p .1)))
 
 pub call-month-spec : {M : Type 1} → statement M
 call-month-spec =

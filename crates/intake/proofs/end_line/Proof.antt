@@ -7,7 +7,7 @@ use mathlib.Core.List.{List}
 use lib.ListN.{length, take}
 use lib.Seq.{length-take-le}
 use Rattle.frame.specs.Frame.{readingOf}
-use Rattle.intake.specs.Book.{refusalIn, bookIn}
+use Rattle.intake.specs.Book.{readingRefusal, bookIn}
 use Rattle.intake.specs.Desk.{bookOf, heldIn}
 use Rattle.intake.proofs.Cutting.{reading-here, held-part}
 use Rattle.intake.proofs.end_line.Statement.{statement}
@@ -35,7 +35,7 @@ returns c = let q = c .before .before .before in
     let a = s .args in
     let book = bookOf (a .desk) (a .filled .now) (a .amounts .now) in
     let h = reading-here (a .line) (a .rest .now) (size s) (t .if1 .taken) in
-    (q .take-line .ensures .0 ∙ ap (refusalIn book) h, q .take-line .ensures .1 ∙ ap (bookIn book) h)
+    (q .take-line .ensures .0 ∙ ap (readingRefusal book) h, q .take-line .ensures .1 ∙ ap (bookIn book) h)
 
 keep-requires : tie.Need-keep-requires
 keep-requires c κs = search needs
@@ -65,7 +65,7 @@ returns-2 c = let q = c .before .before .before in
     let a = k .before .before .before .before .before .args in
     let book = bookOf (a .desk) (a .filled .now) (a .amounts .now) in
     let e = ap (λ (n : ℕ). take n (k .keep .result .bytes)) (h .held .ensures) ∙ held-part (k .keep .result) (size-kept k) ∙ ap heldIn (k .keep .ensures) in
-    (q .take-line2 .ensures .0 ∙ ap (λ (l : List ℕ). refusalIn book (readingOf l)) e, q .take-line2 .ensures .1 ∙ ap (λ (l : List ℕ). bookIn book (readingOf l)) e)
+    (q .take-line2 .ensures .0 ∙ ap (λ (l : List ℕ). readingRefusal book (readingOf l)) e, q .take-line2 .ensures .1 ∙ ap (λ (l : List ℕ). bookIn book (readingOf l)) e)
 
 pub end-line-spec : {M : Type 1} → statement M
 end-line-spec =

@@ -1,26 +1,15 @@
--- `intake::feed` meets its contract: by its one test. Assumes nothing.
+-- `intake::feed` meets its contract: by its number. Assumes nothing.
 use borrow.Author.Needs.{needs}
+use borrow.Author.Tests.{eq-eqb, ne-eqb}
 use native.Mathlib.Omega.{arith}
 use mathlib.Core.Path.{_≡_, refl, sym, _∙_}
-use mathlib.Core.Bool.{true}
-use borrow.Author.Tests.{not-true, not-false}
-use Rattle.intake.specs.Desk.{fits, fedOf, fedMarks, fedAmounts, fedOut}
-use Rattle.intake.proofs.Totals.{chunk-room}
+use Rattle.intake.specs.Desk.{bookOf, fedNumber, fedOf, fedMarks, fedAmounts, fedOut}
+use Rattle.intake.proofs.Kept.{feed-room}
 use Rattle.intake.proofs.feed.Statement.{statement}
 use Rattle.intake.proofs.feed.Tie as tie
 
-fit : (c : tie.Else1) → let a = c .before .before .before .before .before .args in fits (a .state) (a .chunk .now) (a .filled .now) (a .amounts .now) (a .out .now) ≡ true
-fit c = sym (c .before .chunk-fits .ensures) ∙ not-false _ (c .if1 .left)
-
-chunk-fits-requires : tie.Need-chunk-fits-requires
-chunk-fits-requires c κs = search needs
-
-returns : tie.Need-returns
-unfolding fedOf fedMarks fedAmounts fedOut
-returns c = let e = sym (c .before .chunk-fits .ensures) ∙ not-true _ (c .if1 .taken) in rw e (refl, (refl, (refl, (refl, omega arith))))
-
-answer-all-requires : tie.Need-answer-all-requires
-answer-all-requires c κs = chunk-room _ _ _ _ (fit (c .before .before .before))
+feed-refusal-requires : tie.Need-feed-refusal-requires
+feed-refusal-requires c κs = search needs
 
 same-length : tie.Need-same-length
 same-length c = search needs
@@ -28,21 +17,53 @@ same-length c = search needs
 same-length-2 : tie.Need-same-length-2
 same-length-2 c = search needs
 
+number : (c : tie.After-feed-refusal) →
+    let a = c .before .before .before .before .before .before .before .args in
+    c .feed-refusal .result ≡ fedNumber (a .state) (a .chunk .now) (a .filled .now) (a .amounts .now) (a .out .now)
+number c = c .feed-refusal .ensures
+
+returns : tie.Need-returns
+unfolding fedOf fedMarks fedAmounts fedOut
+returns c =
+    let e = number (c .before) in
+    rw (e, ne-eqb _ 0 (λ z. c .if1 .taken (e ∙ z))) (refl, (refl, (refl, (refl, omega arith))))
+
+none : (c : tie.Else1) →
+    let a = c .before .before .before .before .before .before .before .before .args in
+    fedNumber (a .state) (a .chunk .now) (a .filled .now) (a .amounts .now) (a .out .now) ≡ 0
+none c = sym (number (c .before)) ∙ c .if1 .left
+
+answer-all-requires : tie.Need-answer-all-requires
+answer-all-requires c κs =
+    let e = c .before .before .before in
+    let a = e .before .before .before .before .before .before .before .before .args in
+    feed-room (bookOf (a .state .desk) (a .filled .now) (a .amounts .now)) _ _ (none e)
+
 same-length-3 : tie.Need-same-length-3
 same-length-3 c = search needs
 
+same-length-4 : tie.Need-same-length-4
+same-length-4 c = search needs
+
+same-length-5 : tie.Need-same-length-5
+same-length-5 c = search needs
+
 returns-2 : tie.Need-returns-2
 unfolding fedOf fedMarks fedAmounts fedOut
-returns-2 c = let q = c .before .before .before .before .before in rw (fit (q .before .before .before .before)) (q .answer-all .ensures)
+returns-2 c =
+    let q = c .before .before .before .before .before in
+    rw (eq-eqb _ 0 (none (q .before .before .before .before))) (q .answer-all .ensures)
 
 pub feed-spec : {M : Type 1} → statement M
 feed-spec =
     tie.close
     (tie.spec
-    chunk-fits-requires
-    returns
-    answer-all-requires
+    feed-refusal-requires
     same-length
     same-length-2
+    returns
+    answer-all-requires
     same-length-3
+    same-length-4
+    same-length-5
     returns-2)

@@ -11,8 +11,9 @@ use mir.Facts.{toZ-ofZ}
 use Rattle.units.specs.declared.Dollars.{Dollars}
 use Rattle.text.specs.Text.{put}
 use Rattle.intake.specs.Text.{totalText}
-use Rattle.intake.specs.Book.{Book}
-use Rattle.intake.specs.Desk.{settled, lastBook, lastAnswer}
+use Rattle.intake.specs.Book.{Book, totalOf}
+use Rattle.intake.specs.Desk.{bookOf, lastIn, settled, lastBook, lastAnswer}
+use Rattle.intake.proofs.Kept.{book-long, all-kept, settled-total}
 use Rattle.text.proofs.Places.{put-then}
 use Rattle.text.proofs.Spelling.{length-signed}
 use Rattle.intake.proofs.Printed.{total-long}
@@ -23,8 +24,14 @@ use Rattle.intake.proofs.finish_all.Tie as tie
 total-fits : (c : tie.After-struct-told) → SFits w64 (c .before .before .settle .result .0)
 total-fits c = search needs
 
-total-is : (c : tie.After-struct-told) → let a = c .before .before .before .before .before .before .before .before .before .before .before .before .before .before .before .before .args in toZ w64 (ofZ w64 (c .before .before .settle .result .0)) ≡ settled (lastBook (a .state) (a .filled .now) (a .amounts .now))
-total-is c = toZ-ofZ (total-fits c) ∙ ap (λ (z : Dollars). z .0) (c .before .before .settle .ensures) ∙ ap settled (c .before .before .before .before .before .before .before .before .before .before .last-line .ensures .0)
+total-is : (c : tie.After-struct-told) → let a = c .before .before .before .before .before .before .before .before .before .before .before .before .before .before .before .before .args in toZ w64 (ofZ w64 (c .before .before .settle .result .0)) ≡ totalOf (lastBook (a .state) (a .filled .now) (a .amounts .now))
+total-is c =
+    let l = c .before .before .before .before .before .before .before .before .before .before in
+    let s = l .before .before .before .before .before .before in
+    let a = s .args in
+    let book = bookOf (a .state .desk) (a .filled .now) (a .amounts .now) in
+    toZ-ofZ (total-fits c) ∙ ap (λ (z : Dollars). z .0) (c .before .before .settle .ensures) ∙ ap settled (l .last-line .ensures .0)
+    ∙ settled-total (lastBook (a .state) (a .filled .now) (a .amounts .now)) (all-kept book (lastIn (a .state .line)) (s .pre .1))
 
 -- the total is at most 28 bytes
 short : (c : tie.After-struct-told) → length (totalText (toZ w64 (ofZ w64 (c .before .before .settle .result .0)))) ≤ 28
@@ -33,7 +40,10 @@ short c =
     rw (toZ-ofZ (total-fits c)) (omega (arith, total-long z, length-signed z (total-fits c)))
 
 last-line-requires : tie.Need-last-line-requires
-last-line-requires c κs = search needs
+last-line-requires c κs =
+    let s = c .before .before .before .before .before in
+    let a = s .args in
+    (omega (arith, s .pre .0), book-long (bookOf (a .state .desk) (a .filled .now) (a .amounts .now)) (s .pre .1))
 
 settle-requires : tie.Need-settle-requires
 settle-requires c κs = search needs
@@ -60,8 +70,8 @@ returns c = let p = c .before .before in
     let first = lastAnswer (a .state) (a .filled .now) (a .amounts .now) in
     let r = l .ensures in
     let t = rw (total-is d) at (p .put-total .ensures) in
-    let two = put-then (a .out .now) _ _ 0 _ _ first (totalText (settled book)) (omega (arith, r .1 .0, r .1 .1 .1, s .pre .0)) (omega (arith, r .1 .0)) (r .1 .1 .0) (t .0) (t .1) in
-    let long : p .put-total .result ≡ length (first ++ totalText (settled book)) = omega (arith, two .0) in
+    let two = put-then (a .out .now) _ _ 0 _ _ first (totalText (totalOf book)) (omega (arith, r .1 .0, r .1 .1 .1, s .pre .0)) (omega (arith, r .1 .0)) (r .1 .1 .0) (t .0) (t .1) in
+    let long : p .put-total .result ≡ length (first ++ totalText (totalOf book)) = omega (arith, two .0) in
     (λ i. record { refusal = 0; written = long i }, (ap (λ (b : Book). b .board .marks) (r .0), (ap (λ (b : Book). b .board .items) (r .0), (two .1, omega (arith, p .put-total .ensures .0, short d, r .1 .1 .1, s .pre .0)))))
 
 pub finish-all-spec : {M : Type 1} → statement M
