@@ -1,3 +1,4 @@
 -- What belongs to no one function.
 pub mod Core
 mod Determined
+mod RefusedKeeps

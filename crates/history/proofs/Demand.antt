@@ -1,16 +1,18 @@
 -- Demand 3 holds of any ledger whose contracts are lawful: they say of a state what the board's definitions say. By induction on the run: the board
 -- goes on telling what the history tells. Assumes nothing.
-use Prim.Native.Nat.{ℕ}
-use mathlib.Core.Path.{_≡_, sym, ap, ap₂, _∙_, subst, subst⁻¹}
+use Prim.Native.Nat.{ℕ, suc, _+_}
+use mathlib.Core.Path.{_≡_, refl, sym, ap, ap₂, _∙_, subst, subst⁻¹}
 use mathlib.Core.Bool.{true}
-use mathlib.Core.List.{List, [], _∷_}
-use lib.IntN.{ℤ, pos}
+use mathlib.Core.List.{List, [], _∷_, foldl}
+use lib.IntN.{ℤ, pos, _-ℤ_}
 use Rattle.whole.specs.Choice.{pick, unless}
+use Rattle.whole.proofs.Folds.{fold-empty}
+use Rattle.whole.proofs.Sums.{sum-none}
 use Rattle.units.specs.Refusals.{notReachable}
 use Rattle.history.specs.Rules.{Call, Rules, Sound}
 use Rattle.history.specs.Board.{Board, fresh, wellFormed, rulingOn, handed, hourOn, dayOn, partOn, totalOn, hoursOn, refusalOf, nextOf, orReachable}
-use Rattle.history.specs.History.{Entry, Ruled, rulingAfter}
-use Rattle.history.specs.Demand.{Ledger, Run, opened, called, Demand3}
+use Rattle.history.specs.History.{Entry, Ruled, rulingAfter, standing, lastFee, monthSum}
+use Rattle.history.specs.Demand.{Ledger, Run, opened, called, Demand3, Opened}
 use Rattle.history.proofs.Board.{good-well}
 use Rattle.history.proofs.Steps.{Told, entry, ruled, start-told, next-told}
 use Rattle.history.proofs.Readouts.{hour-is, day-is, part-is, total-is, parts-are, hours-is}
@@ -99,3 +101,21 @@ module _ {P F M B S : Type 0} (L : Ledger P F M B S) (laws : Lawful L) where
       -- a read-out of a board in form, by the plan that opened it
       plain : {X : Type 0} (nothing : X) (tells : Rules F M B → ℕ × X) → orReachable (rulesAt s) nothing b (tells (rulesAt s)) ≡ tells R
       plain nothing tells = ap (λ u. pick u (tells (rulesAt s)) (notReachable, nothing)) (well p h s c) ∙ ap (λ q. tells (L .rules q)) (c .plan)
+
+  -- of no history nothing is told: no hour stands, and every sum is 0
+  no-fees : (fs : List F) → foldl (λ z _. z -ℤ pos 0) (pos 0) fs ≡ pos 0
+  no-fees [] = refl
+  no-fees (f ∷ fs) = no-fees fs
+
+  pub opens-empty : (p : P) (s : S) → L .Opens p s → Opened L p s
+  unfolding standing lastFee
+  opens-empty p s o =
+      let R = L .rules p in
+      let d3 = demand3 p [] s (opened s o) in
+      let nothing : monthSum R (R .worth) [] ≡ pos 0 = sum-none (R .days) _ (λ k _. sum-none (R .hoursOf (suc k)) _ (λ _ _. refl)) in
+      record {
+        hour = λ d x i r a. d3 .hour d x r a ∙ rw i;
+        day = λ d i r a. d3 .day d r a ∙ rw i (ap (λ z. (0, z)) (sum-none (R .hoursOf d) _ (λ _ _. refl)));
+        total = λ r a. d3 .total r a ∙ ap (λ z. (0, z)) (ap (λ e. foldl (λ z _. z -ℤ pos 0) e (R .fees)) nothing ∙ no-fees (R .fees));
+        hours = λ r a. d3 .hours r a ∙ ap (λ n. (0, n)) (fold-empty 0 _+_ refl (R .days) _ (λ k _. fold-empty 0 _+_ refl (R .hoursOf (suc k)) _ (λ _ _. refl)));
+      }

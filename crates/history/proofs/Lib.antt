@@ -1,7 +1,6 @@
 -- The theory of any ledger: days and places, the board, one call, the read-outs, demand 3, and refusal 22.
 pub mod Days
 pub mod Board
-pub mod Sums
 pub mod Steps
 pub mod Readouts
 pub mod Demand

@@ -16,7 +16,7 @@ use Rattle.units.specs.Refusals.{notInMonth, placeEmpty}
 use Rattle.history.specs.Rules.{Rules, Sound, inside, placeIn}
 use Rattle.history.specs.Board.{Board, told, markAt, itemAt, filledAt, hourOn, dayOn, sumOn, partOn, totalOn, hoursOn}
 use Rattle.history.specs.History.{Entry, standing, stands, readAs, lastFee, hourIs, daySum, monthSum, dayIs, partIs, earnedIs, totalIs, hoursIs}
-use Rattle.history.proofs.Sums.{sum-none, sum-swap}
+use Rattle.whole.proofs.Sums.{sum-none, sum-swap}
 use Rattle.history.proofs.Board.{placeOn, standsOn, below, over-hours, read-at, held-at}
 use Rattle.history.proofs.Steps.{Told, stands-pick}
 

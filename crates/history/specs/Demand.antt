@@ -3,11 +3,13 @@
 use Prim.Native.Nat.{ℕ, suc}
 use mathlib.Core.Path.{_≡_}
 use mathlib.Core.Logic.{_↔_}
+use mathlib.Core.Bool.{true, _&&_}
 use mathlib.Core.List.{List, [], _∷_}
-use lib.IntN.{ℤ}
+use lib.Dec.{leb}
+use lib.IntN.{ℤ, pos}
 use Rattle.whole.specs.Folds.{sumTo}
-use Rattle.units.specs.Refusals.{notReachable}
-use Rattle.history.specs.Rules.{Call, Rules}
+use Rattle.units.specs.Refusals.{placeEmpty, notReachable}
+use Rattle.history.specs.Rules.{Call, Rules, inside}
 use Rattle.history.specs.History.{Entry, Ruled, hourIs, dayIs, partIs, earnedIs, totalIs, hoursIs}
 
 -- the contracts of a ledger of items M × B, with the fees F, whose months open by plans P and whose states are S; a read-out's answer is its refusal number
@@ -45,6 +47,13 @@ module _ {P F M B S : Type 0} (L : Ledger P F M B S) (p : P) where
     -- #111: "the five product sums, each from the history, add up to the total before the loss fees."
     pub part : (q : ℕ) (r : ℕ × ℤ) → L .Part s q r → r ≡ partIs (L .rules p) h q
     pub parts : sumTo (L .rules p .parts) (λ k. partIs (L .rules p) h (suc k) .1) ≡ earnedIs (L .rules p) h
+
+  -- "Every month .. opens, fresh and with no hour standing": what is told of a month that was just opened
+  pub record Opened (s : S) : Type 0 where
+    pub hour : (d x : ℕ) → inside (L .rules p) d x ≡ true → (r : ℕ × ℤ) → L .Hour s d x r → r ≡ (placeEmpty, pos 0)
+    pub day : (d : ℕ) → leb 1 d && leb d (L .rules p .days) ≡ true → (r : ℕ × ℤ) → L .Day s d r → r ≡ (0, pos 0)
+    pub total : (r : ℕ × ℤ) → L .Total s r → r ≡ (0, pos 0)
+    pub hours : (r : ℕ × ℕ) → L .Hours s r → r ≡ (0, 0)
 
 -- what some run of calls from a fresh month hands back
 pub record Reachable {P F M B S : Type 0} (L : Ledger P F M B S) (s : S) : Type 0 where

@@ -10,3 +10,4 @@ pub mod Demand
 pub mod Transcript
 pub mod Contracts
 mod Determined
+mod RefusedKeeps

@@ -1,7 +1,7 @@
 -- DEMAND 3 of the month ledger, over the calls' contracts as the source states them (`Post` of each function's `Reads`): whatever meets those
 -- contracts loses no hour, doubles none and invents none. From the theory of any ledger (crates/history): the month is an instance. Assumes nothing.
 use Prim.Native.Nat.{ℕ}
-use mathlib.Core.Path.{_≡_, ap, _∙_}
+use mathlib.Core.Path.{_≡_, ap, _∙_, subst}
 use mathlib.Core.Bool.{Bool, true, false}
 use mathlib.Core.List.{List}
 use native.Mathlib.Omega.{arith}
@@ -13,9 +13,10 @@ use Rattle.whole.proofs.Choice.{by-test, kept-old}
 use Rattle.units.specs.Refusals.{notInMonth}
 use Rattle.history.specs.Board.{wellFormed, fresh, rulingOn, nextOn, handed, refusalOf, nextOf}
 use Rattle.history.specs.History.{Entry}
-use Rattle.history.specs.Demand.{Ledger, Run, Demand3}
+use Rattle.history.specs.Demand.{Ledger, Run, Demand3, Opened}
 use Rattle.history.proofs.Demand.{Lawful}
 use Rattle.history.proofs.Demand.{demand3 as any-demand3}
+use Rattle.history.proofs.Demand.{opens-empty as any-opens-empty}
 use Rattle.board.specs.Board.{Fee, Item, isDays, monthRules, dollars, toldOf}
 use Rattle.month.specs.Month.{rulesOf, boardOf, monthOf, freshMonth, openOf, answerOf, hourOf, dayOf, totalOf, standingOf}
 use Rattle.month.specs.declared.Month.{Month}
@@ -132,6 +133,10 @@ refused-same m c f =
 pub opens : (days : ℕ) → isDays days ≡ true → (r : Booked) → open-reads.Post tt (days, tt) r (days, tt) → (r .refusal ≡ 0) × (r .month ≡ freshMonth days)
 unfolding openOf
 opens days d r e = let f = e ∙ ap (λ b. record { refusal = unless b notInMonth 0; month = pick b (freshMonth days) (freshMonth 0) }) d in (ap (λ (b : Booked). b .refusal) f, ap (λ (b : Booked). b .month) f)
+
+-- with no hour standing: every hour of it is 8, every day's sum, the total and the count are 0
+pub opens-empty : (days : ℕ) → isDays days ≡ true → (r : Booked) → open-reads.Post tt (days, tt) r (days, tt) → Opened monthLedger days (r .month)
+opens-empty days d r e = any-opens-empty monthLedger month-laws days (r .month) (subst (λ (k : ℕ). booked k (r .month) ≡ openOf days) (opens days d r e .0) e)
 
 -- and whatever is called then, the ledger tells what its history tells
 pub demand3 : (days : ℕ) (h : List (Entry Fee Item)) (m : Month) → Run monthLedger days h m → Demand3 monthLedger days h m

@@ -6,3 +6,4 @@ mod Readouts
 pub mod Demand
 pub mod Reach
 mod Determined
+mod RefusedKeeps

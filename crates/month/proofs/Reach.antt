@@ -2,8 +2,8 @@
 -- of any ledger (crates/history, Reach): the month's calls can be made, and its days and its board are all of it. Assumes nothing.
 use mathlib.Core.Path.{_≡_, refl}
 use mathlib.Core.Logic.{_↔_}
-use mathlib.Core.Bool.{true}
-use lib.ListN.{length}
+use mathlib.Core.Bool.{Bool, true}
+use lib.IntN.{ℤ}
 use Rattle.history.specs.Rules.{Call}
 use Rattle.history.specs.Board.{wellFormed, rulingOn, nextOn, handed, refusalOf, nextOf}
 use Rattle.history.specs.Demand.{Reachable, Exact22}
@@ -15,6 +15,12 @@ use Rattle.month.specs.Month.{rulesOf, boardOf, monthOf, freshMonth, ope
 use Rattle.month.specs.declared.Month.{Month}
 use Rattle.month.proofs.Sound.{month-small}
 use Rattle.month.proofs.Demand.{Answers, monthLedger, month-laws}
+use denote.Struct.Laws.{owed}
+use borrow.Fn.Kinds.{GoodsP}
+use borrow.Author.Needs.{length-unmapped}
+use Rattle.month.proofs.Month as month
+use Rattle.month.proofs.Month.Laws as month-type-laws
+use Rattle.month.proofs.Month.total.Kinds as total-kinds
 
 able : Able monthLedger month-laws
 unfolding openOf month-laws answerOf refusalOf nextOf rulingOn handed nextOn
@@ -35,12 +41,18 @@ able =
     met m (Call.lossFee f z) = refl
     met m Call.close = refl
 
--- what the type holds: 744 marks and 744 amounts
-module _ (m : Month) (held : Held (rulesOf m) (boardOf m)) where
+-- what the type holds, as the toolchain says it of a month that is handed in: 744 marks and 744 amounts
+held : (m : Month) → GoodsP tt total-kinds.ps (m, tt) → Held (rulesOf m) (boardOf m)
+held m g =
+    let f = owed month.the-type month-type-laws.the-laws m _ (g .0) in
+    record { marks = length-unmapped Bool (m .filled) 744 (f .1 .1 .1 .0 .1 .0 .1); items = length-unmapped ℤ (m .amounts) 744 (f .1 .1 .1 .1 .0 .1 .0 .1) }
+
+-- of a month that lies in its type, which is what the toolchain holds of every one that is handed in
+module _ (m : Month) (typed : GoodsP tt total-kinds.ps (m, tt)) where
   pub reachable-iff : (wellFormed (rulesOf m) (boardOf m) ≡ true) ↔ Reachable monthLedger m
   unfolding month-laws
-  reachable-iff = any-reachable-iff monthLedger month-laws able m held
+  reachable-iff = any-reachable-iff monthLedger month-laws able m (held m typed)
 
   pub month-22 : Exact22 monthLedger m
   unfolding month-laws
-  month-22 = exact-22 monthLedger month-laws able month-small m held
+  month-22 = exact-22 monthLedger month-laws able month-small m (held m typed)

@@ -25,6 +25,12 @@ module _ {M : Type 0} (ε : M) (op : M → M → M) where
   fold-same zero f g h = refl
   fold-same (suc n) f g h = ap₂ op (fold-same n f g (λ k l. h k (omega arith))) (h n (omega arith))
 
+  -- nothing but units
+  pub fold-empty : op ε ε ≡ ε → (n : ℕ) (f : ℕ → M) → ((k : ℕ) → k < n → f k ≡ ε) → foldTo ε op n f ≡ ε
+  unfolding foldTo
+  fold-empty e zero f h = refl
+  fold-empty e (suc n) f h = ap₂ op (fold-empty e n f (λ k l. h k (omega arith))) (h n (omega arith)) ∙ e
+
   module _ (unit : (x : M) → op x ε ≡ x) (assoc : (x y z : M) → op (op x y) z ≡ op x (op y z)) where
     pub fold-split : (a b : ℕ) (f : ℕ → M) → foldTo ε op (a + b) f ≡ op (foldTo ε op a f) (foldTo ε op b (λ k. f (a + k)))
     unfolding foldTo
