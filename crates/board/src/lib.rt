@@ -207,13 +207,13 @@ pub fn replace_in(
     if k != 0 {
         return k;
     }
-    let at = place_of(day, hour);
-    let taken = filled_at(filled, at);
-    let n = rest(amount, taken, refusals::PLACE_EMPTY);
+    let here = place_of(day, hour);
+    let stands = filled_at(filled, here);
+    let n = rest(amount, stands, refusals::PLACE_EMPTY);
     if n != 0 {
         return n;
     }
-    put(filled, amounts, at, true, amount);
+    put(filled, amounts, here, true, amount);
     0
 }
 

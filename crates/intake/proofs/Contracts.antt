@@ -1,26 +1,30 @@
 -- The transcript over the contracts as the toolchain reads them: any run of answers that meet `feed`'s, one for each chunk and each accepted, and of
 -- one that meets `finish`'s, from the first state and a month's empty places, has printed the transcript of the whole input. The contracts are
 -- equations, so that this follows from the definitions. Assumes nothing.
-use Prim.Native.Nat.{ℕ}
-use mathlib.Core.Path.{_≡_, refl, sym, ap, ap₂, _∙_}
-use mathlib.Core.Bool.{Bool, false}
+use Prim.Native.Nat.{ℕ, _+_, _*_, _/_, _≤_}
+use mathlib.Core.Path.{_≡_, refl, sym, ap, ap₂, _∙_, subst}
+use mathlib.Core.Bool.{Bool, true, false}
 use mathlib.Core.List.{List, [], _∷_, _++_}
 use lib.IntN.{ℤ, pos}
-use lib.ListN.{length, take, replicate}
+use native.Mathlib.Omega.{arith}
+use lib.Dec.{leb}
+use lib.ListN.{length, take, replicate, length-replicate}
 use lib.Seq.{take-append-seam}
 use contract.Lifetimes.{Lfts}
-use denote.Ref.{now}
+use denote.Ref.{RefT, now}
 use denote.Triple.Clauses.{AtExit}
 use borrow.Fn.Kinds.{Dens, endedOf}
+use borrow.Author.Tests.{le-leb}
 use Rattle.whole.proofs.Choice.{kept-new}
 use Rattle.whole.proofs.Refused.{number-is}
 use Rattle.text.specs.Text.{put}
 use Rattle.intake.specs.Book.{transcript}
 use Rattle.intake.specs.Account.{printedOf}
-use Rattle.intake.specs.Desk.{startState, chunkText, chunkBook, chunkState, lastText, fedNumber, endNumber, fedOf, fedMarks, fedAmounts, fedOut, finishedOf, endOut}
+use Rattle.intake.specs.Desk.{linesIn, bookOf, startState, bookRefusal, feedRefusal, endRefusal, chunkText, chunkBook, chunkState, lastText, fedNumber, endNumber, fedOf, fedMarks, fedAmounts, fedOut, finishedOf, endMarks, endAmounts, endOut}
 use Rattle.intake.specs.declared.State.{State}
 use Rattle.intake.specs.declared.Fed.{Fed}
 use Rattle.intake.specs.declared.Finished.{Finished}
+use Rattle.intake.proofs.Kept.{all-kept}
 use Rattle.intake.proofs.Demand.{transcript-told}
 use Rattle.intake.proofs.Transcript.{joined, outputFrom, output-transcript}
 use Rattle.intake.proofs.feed.Reads as feed-reads
@@ -159,3 +163,131 @@ prints-transcript cs text p = printed-is p ∙ output-transcript cs
 -- and so the history of the input's frames: each line its number as the history rules, and then the total of that history
 pub prints-history : (cs : List (List ℕ)) (text : List ℕ) → Prints startState (replicate 744 false) (replicate 744 (pos 0)) cs text → text ≡ printedOf (joined cs)
 prints-history cs text p = prints-transcript cs text p ∙ transcript-told (joined cs)
+
+-- ---- every `feed` of the program is accepted, and so is its `finish`
+
+-- the states and runs that calls of `feed` lead to
+pub data Reaches : State → List Bool → List ℤ → Type 0 where
+  started : Reaches startState (replicate 744 false) (replicate 744 (pos 0))
+  fed-on : {state next : State} {filled marks : List Bool} {amounts items : List ℤ} {chunk text : List ℕ}
+      → Reaches state filled amounts → Feeds state chunk filled amounts next marks items text → Reaches next marks items
+
+reaches-kept : {state : State} {filled : List Bool} {amounts : List ℤ} → Reaches state filled amounts → bookRefusal (bookOf (state .desk) filled amounts) ≡ 0
+unfolding startState
+reaches-kept started = refl
+reaches-kept (fed-on {state = state} {filled = filled} {amounts = amounts} {chunk = chunk} r f) =
+    let d = fedly f in
+    rw (d .next-is, d .marks-is, d .items-is) (all-kept (bookOf (state .desk) filled amounts) (linesIn (state .line) chunk) (reaches-kept r))
+
+-- a read of at most 65,536 bytes, against the run of 786,432 that the program lends
+pub feed-accepted : (κs : Lfts 4) (a : Dens κs feed-kinds.ps) (r : Fed) (s : AtExit (endedOf 4 feed-kinds.ps feed-kinds.r) κs) → feed-reads.Post κs a r s
+    → Reaches (a .0) (now (a .1 .1 .0)) (now (a .1 .1 .1 .0)) → length (now (a .1 .0)) ≤ 65536 → length (now (a .1 .1 .1 .1 .0)) ≡ 786432 → r .refusal ≡ 0
+unfolding fedOf feedRefusal
+feed-accepted κs a r s p reached short long =
+    let enough : length (now (a .1 .0)) ≤ length (now (a .1 .1 .1 .1 .0)) / 12 = omega arith in
+    let room : leb (length (now (a .1 .0))) (length (now (a .1 .1 .1 .1 .0)) / 12) ≡ true = le-leb _ _ enough in
+    let none : fedNumber (a .0) (now (a .1 .0)) (now (a .1 .1 .0)) (now (a .1 .1 .1 .0)) (now (a .1 .1 .1 .1 .0)) ≡ 0 = rw room (reaches-kept reached) in
+    ap (λ (x : Fed). x .refusal) (p .0) ∙ ap (λ (x : Fed). x .refusal) (kept-new _ _ none)
+
+pub finish-accepted : (κs : Lfts 3) (a : Dens κs finish-kinds.ps) (r : Finished) (s : AtExit (endedOf 3 finish-kinds.ps finish-kinds.r) κs) → finish-reads.Post κs a r s
+    → Reaches (a .0) (now (a .1 .0)) (now (a .1 .1 .0)) → 40 ≤ length (now (a .1 .1 .1 .0)) → r .refusal ≡ 0
+unfolding finishedOf endRefusal
+finish-accepted κs a r s p reached long =
+    let room : leb 40 (length (now (a .1 .1 .1 .0))) ≡ true = le-leb _ _ long in
+    let none : endNumber (a .0) (now (a .1 .0)) (now (a .1 .1 .0)) (now (a .1 .1 .1 .0)) ≡ 0 = rw room (reaches-kept reached) in
+    ap (λ (x : Finished). x .refusal) (p .0) ∙ ap (λ (x : Finished). x .refusal) (kept-new _ _ none)
+
+-- ---- there are such calls: the definitions' own answers, with runs lent that are long enough
+
+abbrev lend : {X : Type 0} → X → RefT X
+lend x = record { ptr = (0, 0); name = 0; now = x }
+
+module _ (state : State) (chunk : List ℕ) (filled : List Bool) (amounts : List ℤ) (k : bookRefusal (bookOf (state .desk) filled amounts) ≡ 0) where
+  room-for : ℕ
+  room-for = 12 * (length chunk + length (chunkText state chunk filled amounts))
+
+  run : List ℕ
+  run = replicate room-for 0
+
+  run-long : length run ≡ room-for
+  unfolding run
+  run-long = length-replicate room-for 0
+
+  run-none : fedNumber state chunk filled amounts run ≡ 0
+  unfolding feedRefusal room-for
+  run-none =
+      let enough : length chunk ≤ length run / 12 = omega (arith, run-long) in
+      rw (le-leb (length chunk) (length run / 12) enough) k
+
+  run-granted : fedOf state chunk filled amounts run ≡ record { refusal = 0; state = chunkState state chunk filled amounts; written = length (chunkText state chunk filled amounts) }
+  unfolding fedOf
+  run-granted = kept-new _ _ run-none
+
+  feeds : Feeds state chunk filled amounts (chunkState state chunk filled amounts) (chunkBook state chunk filled amounts .board .marks) (chunkBook state chunk filled amounts .board .items) (chunkText state chunk filled amounts)
+  unfolding room-for
+  feeds =
+      let accepted : fedOf state chunk filled amounts run .refusal ≡ 0 = ap (λ (r : Fed). r .refusal) run-granted in
+      let short : fedOf state chunk filled amounts run .written ≤ length run = omega (arith, run-long, ap (λ (r : Fed). r .written) run-granted) in
+      record {
+        κs = ([], ([], ([], ([], tt))));
+        handed = (state, (lend chunk, (lend filled, (lend amounts, (lend run, tt)))));
+        answer = fedOf state chunk filled amounts run;
+        left = (state, (lend chunk, (lend (fedMarks state chunk filled amounts run), (lend (fedAmounts state chunk filled amounts run), (lend (fedOut state chunk filled amounts run), tt)))));
+        post = (refl, (refl, (refl, (refl, short))));
+        accepted = accepted;
+        is-state = refl;
+        is-chunk = refl;
+        is-filled = refl;
+        is-amounts = refl;
+        is-next = state-left state chunk filled amounts run accepted;
+        is-marks = marks-left state chunk filled amounts run accepted;
+        is-items = items-left state chunk filled amounts run accepted;
+        is-text = text-left state chunk filled amounts run accepted;
+      }
+
+module _ (state : State) (filled : List Bool) (amounts : List ℤ) (k : bookRefusal (bookOf (state .desk) filled amounts) ≡ 0) where
+  end-for : ℕ
+  end-for = 40 + length (lastText state filled amounts)
+
+  end-run : List ℕ
+  end-run = replicate end-for 0
+
+  end-long : length end-run ≡ end-for
+  unfolding end-run
+  end-long = length-replicate end-for 0
+
+  end-free : endNumber state filled amounts end-run ≡ 0
+  unfolding endRefusal end-for
+  end-free = let enough : 40 ≤ length end-run = omega (arith, end-long) in rw (le-leb 40 (length end-run) enough) k
+
+  finishes : Finishes state filled amounts (lastText state filled amounts)
+  unfolding finishedOf end-for
+  finishes =
+      let granted : finishedOf state filled amounts end-run ≡ record { refusal = 0; written = length (lastText state filled amounts) } = kept-new _ _ end-free in
+      let accepted : finishedOf state filled amounts end-run .refusal ≡ 0 = ap (λ (r : Finished). r .refusal) granted in
+      let short : finishedOf state filled amounts end-run .written ≤ length end-run = omega (arith, end-long, ap (λ (r : Finished). r .written) granted) in
+      record {
+        κs = ([], ([], ([], tt)));
+        handed = (state, (lend filled, (lend amounts, (lend end-run, tt))));
+        answer = finishedOf state filled amounts end-run;
+        left = (state, (lend (endMarks state filled amounts end-run), (lend (endAmounts state filled amounts end-run), (lend (endOut state filled amounts end-run), tt))));
+        post = (refl, (refl, (refl, (refl, short))));
+        accepted = accepted;
+        is-state = refl;
+        is-filled = refl;
+        is-amounts = refl;
+        is-text = end-left state filled amounts end-run accepted;
+      }
+
+made-from : (state : State) (filled : List Bool) (amounts : List ℤ) (cs : List (List ℕ)) → bookRefusal (bookOf (state .desk) filled amounts) ≡ 0 → Prints state filled amounts cs (outputFrom state filled amounts cs)
+made-from state filled amounts [] k = finished (finishes state filled amounts k)
+made-from state filled amounts (c ∷ cs) k =
+    fed (feeds state c filled amounts k)
+    (made-from (chunkState state c filled amounts) (chunkBook state c filled amounts .board .marks) (chunkBook state c filled amounts .board .items) cs
+    (all-kept (bookOf (state .desk) filled amounts) (linesIn (state .line) c) k))
+
+-- any input, however it is cut, is printed so
+pub prints-made : (cs : List (List ℕ)) → Prints startState (replicate 744 false) (replicate 744 (pos 0)) cs (transcript (joined cs))
+prints-made cs =
+    subst (Prints startState (replicate 744 false) (replicate 744 (pos 0)) cs) (output-transcript cs)
+    (made-from startState (replicate 744 false) (replicate 744 (pos 0)) cs (reaches-kept started))
