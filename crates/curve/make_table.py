@@ -26,13 +26,9 @@ def percent(bound, f):
             return nearest(p[bound] + Fraction(f - p[0], q[0] - p[0]) * (q[bound] - p[bound]))
 
 
-def table(name, bound):
-    print(f"\npub const {name}: [i64; 501] = [")
-    for f in range(59750, 60251):
-        print(f"    {percent(bound, f)}, // {f}")
-    print("];")
-
-
-print("// The power curve, a percent of capacity for each millihertz from 59,750 to 60,250. make_table.py prints this file.")
-table("UPPER", 1)
-table("LOWER", 2)
+print("// The power curve: 501 pairs, upper and lower percent of capacity for each millihertz from 59,750 to 60,250. make_table.py prints this file.")
+print("pub const PAIRS: [i64; 1_002] = [")
+for f in range(59750, 60251):
+    print(f"    {percent(1, f)}, // {f} upper")
+    print(f"    {percent(2, f)}, // {f} lower")
+print("];")

@@ -5,10 +5,8 @@ use Rattle.curve.proofs.curve.Reads as curve
 use Rattle.curve.proofs.curve.Kinds as curve-kinds
 use Rattle.curve.proofs.place.Reads as place
 use Rattle.curve.proofs.place.Kinds as place-kinds
-use Rattle.curve.proofs.uppers.Reads as uppers
-use Rattle.curve.proofs.uppers.Kinds as uppers-kinds
-use Rattle.curve.proofs.lowers.Reads as lowers
-use Rattle.curve.proofs.lowers.Kinds as lowers-kinds
+use Rattle.curve.proofs.pairs.Reads as pairs
+use Rattle.curve.proofs.pairs.Kinds as pairs-kinds
 
 curve-determined : Determined 0 curve-kinds.ps curve-kinds.r curve.Post
 curve-determined κs a x y s t p q = p ∙ sym q
@@ -16,8 +14,5 @@ curve-determined κs a x y s t p q = p ∙ sym q
 place-determined : Determined 0 place-kinds.ps place-kinds.r place.Post
 place-determined κs a x y s t p q = p ∙ sym q
 
-uppers-determined : Determined 0 uppers-kinds.ps uppers-kinds.r uppers.Post
-uppers-determined κs a x y s t p q = p ∙ sym q
-
-lowers-determined : Determined 0 lowers-kinds.ps lowers-kinds.r lowers.Post
-lowers-determined κs a x y s t p q = p ∙ sym q
+pairs-determined : Determined 0 pairs-kinds.ps pairs-kinds.r pairs.Post
+pairs-determined κs a x y s t p q = p ∙ sym q

@@ -1,8 +1,9 @@
 -- What crates above cite: a bound lies from -100 to 100 percent, whatever frequency is handed in. Once for both bounds: at the 501 frequencies of the table by computing
 -- them, and outside by the level ends. Assumes nothing.
-use Prim.Native.Nat.{ℕ, _+_, _-_, _<_, min}
-use mathlib.Core.Path.{_≡_, refl, _∙_}
+use Prim.Native.Nat.{ℕ, _+_, _*_, _-_, _<_, min}
+use mathlib.Core.Path.{_≡_, refl, ap, _∙_}
 use mathlib.Core.Bool.{true}
+use mathlib.Core.List.{List}
 use native.Mathlib.Omega.{arith}
 use lib.IntN.{ℤ, pos, negsuc}
 use lib.ListN.{length, getD}
@@ -10,10 +11,10 @@ use lib.Signed.{leZ}
 use Rattle.whole.specs.Folds.{foldTo, allTo}
 use Rattle.whole.specs.Whole.{minus, Within, inRange, nearest, withSign, halfUp}
 use Rattle.whole.proofs.Folds.{all-at}
-use Rattle.whole.proofs.Runs.{length-listed, getD-listed}
 use Rattle.whole.proofs.Sums.{in-within}
 use Rattle.units.specs.declared.Millihertz.{Millihertz}
-use Rattle.curve.specs.Curve.{Corner, bound, upperAt, lowerAt, boundsAt, curveAt, uppersOf, lowersOf, placeAt}
+use Rattle.curve.specs.Curve.{Corner, bound, upperAt, lowerAt, boundsAt, curveAt, pairsOf, placeAt}
+use Rattle.curve.proofs.Entries.{entry, length-pairs}
 use Rattle.curve.proofs.Laws.{Ends, clip, clipped, upper-placed, lower-placed}
 
 pub place-within : (f : ℤ) → placeAt f < 501
@@ -55,22 +56,16 @@ unfolding upperAt lowerAt
 bounds-ordered (pos f) = ordered f
 bounds-ordered (negsuc f) = refl
 
--- what a table has at the place of a frequency
-pub upper-in : (f : ℤ) → getD uppersOf (placeAt f) (pos 0) ≡ upperAt f
-unfolding uppersOf
-upper-in f = getD-listed (λ (k : ℕ). upperAt (pos k)) 59750 501 (placeAt f) (pos 0) (place-within f) ∙ upper-placed f
+-- what the table has at the place of a frequency
+module _ (f : ℤ) {l : List ℤ} {k : ℕ} (table : l ≡ pairsOf) (at : k ≡ placeAt f) where
+  pub pair-inside : 2 * k + 1 < length l
+  pair-inside = omega (arith, ap length table, length-pairs, place-within f)
 
-pub lower-in : (f : ℤ) → getD lowersOf (placeAt f) (pos 0) ≡ lowerAt f
-unfolding lowersOf
-lower-in f = getD-listed (λ (k : ℕ). lowerAt (pos k)) 59750 501 (placeAt f) (pos 0) (place-within f) ∙ lower-placed f
+  pub upper-in : getD l (2 * k) (pos 0) ≡ upperAt f
+  upper-in = rw (table, at) (entry (placeAt f) (place-within f) .upper ∙ upper-placed f)
 
-pub length-uppers : length uppersOf ≡ 501
-unfolding uppersOf
-length-uppers = length-listed (λ (k : ℕ). upperAt (pos k)) 59750 501
-
-pub length-lowers : length lowersOf ≡ 501
-unfolding lowersOf
-length-lowers = length-listed (λ (k : ℕ). lowerAt (pos k)) 59750 501
+  pub lower-in : getD l (2 * k + 1) (pos 0) ≡ lowerAt f
+  lower-in = rw (table, at) (entry (placeAt f) (place-within f) .lower ∙ lower-placed f)
 
 -- a frequency in its range has the lines' bounds
 pub curve-is : (f : Millihertz) → inRange (pos 55000) (pos 65000) (f .0) ≡ true → curveAt f ≡ boundsAt (f .0)

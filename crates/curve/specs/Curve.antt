@@ -1,10 +1,9 @@
 -- Document 01, "The power curve" (document 001, table 1): upper and lower power in percent of capacity, straight between the corners.
-use Prim.Native.Nat.{ℕ, _-_, min}
+use Prim.Native.Nat.{ℕ, zero, suc, _-_, min}
 use mathlib.Core.List.{List, [], _∷_}
 use lib.IntN.{ℤ, pos, negsuc, natAbs, _+ℤ_, _-ℤ_, _*ℤ_}
 use lib.Signed.{leZ}
 use Rattle.whole.specs.Choice.{pick}
-use Rattle.whole.specs.Runs.{listed}
 use Rattle.whole.specs.Whole.{minus, inRange, nearest}
 use Rattle.units.specs.Refusals.{badReading}
 use Rattle.units.specs.declared.Millihertz.{Millihertz}
@@ -59,14 +58,16 @@ curveAt frequency =
     (boundsAt (frequency .0))
     (record { refusal = badReading; upper = pos 0; lower = pos 0 })
 
+-- n pairs, an upper bound and its lower one, from the frequency f on
+abbrev pub pairsFrom : ℕ → ℕ → List ℤ
+pairsFrom f zero = []
+pairsFrom f (suc n) = upperAt (pos f) ∷ lowerAt (pos f) ∷ pairsFrom (suc f) n
+
 -- the table that the desk prints: 501 pairs, one for each millihertz from 59,750 to 60,250
-unfoldable pub uppersOf : List ℤ
-uppersOf = listed (λ (f : ℕ). upperAt (pos f)) 59750 501
+unfoldable pub pairsOf : List ℤ
+pairsOf = pairsFrom 59750 501
 
-unfoldable pub lowersOf : List ℤ
-lowersOf = listed (λ (f : ℕ). lowerAt (pos f)) 59750 501
-
--- the place in it that a frequency is read at: below the table its first, above it its last
+-- the place among its pairs that a frequency is read at: below the table the first, above it the last
 unfoldable pub placeAt : ℤ → ℕ
 placeAt (pos f) = min (f - 59750) 500
 placeAt (negsuc f) = 0

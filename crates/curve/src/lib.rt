@@ -1,8 +1,6 @@
 // The power curve (document 001, table 1): a frequency's upper and lower power in percent of capacity.
 ghost use mathlib.Core.Path.{_≡_};
-ghost use lib.IntN.{pos};
-ghost use Prim.Native.Nat.{_+_, _≤_};
-ghost use Rattle.curve.specs.Curve.{curveAt, boundsAt, upperAt, lowerAt, placeAt, uppersOf, lowersOf};
+ghost use Rattle.curve.specs.Curve.{curveAt, boundsAt, placeAt, pairsOf};
 use units::Millihertz;
 
 mod table;
@@ -32,17 +30,18 @@ pub fn curve(frequency: Millihertz) -> Bounds
 fn bounds_at(frequency: Millihertz) -> Bounds
     ensures { λ r. ⌜ r ≡ boundsAt (frequency .0) ⌝ }
 {
-    let k = place(frequency);
-    let u = upper(k);
-    let l = lower(k);
+    let pairs = pairs();
+    let k = 2 * place(frequency);
+    let upper = pairs[k];
+    let lower = pairs[k + 1];
     Bounds {
         refusal: 0,
-        upper: u,
-        lower: l,
+        upper,
+        lower,
     }
 }
 
-// The place in the table that a frequency is read at: its distance from the table's start, and the nearer end for one outside.
+// The place among the table's pairs that a frequency is read at: its distance from the table's start, and the nearer end for one outside.
 pub fn place(frequency: Millihertz) -> usize
     ensures { λ r. ⌜ r ≡ placeAt (frequency .0) ⌝ }
 {
@@ -56,29 +55,9 @@ pub fn place(frequency: Millihertz) -> usize
     (f - 59_750) as usize
 }
 
-// The table's upper bounds, one for each millihertz from 59,750 on; and its lower ones. A run of seconds makes them once.
-pub fn uppers() -> [i64; 501]
-    ensures { λ r. ⌜ r ≡ uppersOf ⌝ }
+// The table: the upper and the lower bound of each millihertz from 59,750 on, one pair after the other. A run of seconds makes it once.
+pub fn pairs() -> [i64; 1002]
+    ensures { λ r. ⌜ r ≡ pairsOf ⌝ }
 {
-    table::UPPER
-}
-
-pub fn lowers() -> [i64; 501]
-    ensures { λ r. ⌜ r ≡ lowersOf ⌝ }
-{
-    table::LOWER
-}
-
-fn upper(k: usize) -> i64
-    requires { ⌜ k ≤ 500 ⌝ }
-    ensures { λ r. ⌜ r ≡ upperAt (pos (59750 + k)) ⌝ }
-{
-    table::UPPER[k]
-}
-
-fn lower(k: usize) -> i64
-    requires { ⌜ k ≤ 500 ⌝ }
-    ensures { λ r. ⌜ r ≡ lowerAt (pos (59750 + k)) ⌝ }
-{
-    table::LOWER[k]
+    table::PAIRS
 }

@@ -8,7 +8,7 @@ ghost use lib.Signed.{ltZ, leZ};
 ghost use Rattle.whole.specs.Choice.{pick};
 ghost use Rattle.whole.specs.Folds.{allTo};
 ghost use Rattle.whole.specs.Whole.{up, down, Within, Between, halfUp, nearest};
-ghost use Rattle.curve.specs.Curve.{uppersOf, lowersOf};
+ghost use Rattle.curve.specs.Curve.{pairsOf};
 ghost use Rattle.score.specs.Score.{percentOutput, scoreOf, secondRefusal, judgedBy, secondScore};
 ghost use Rattle.score.specs.Inverse.{inverseOf};
 ghost use Rattle.score.specs.Run.{secondFits, fitAt, secondsRefusal, runRefusal, runScores, runLeft};
@@ -262,7 +262,7 @@ fn second_fits(power: i64, frequency: i64, transfer: i64) -> bool
         & (whole::within(power, -200_000, 200_000) & whole::within(frequency, 55_000, 65_000))
 }
 
-// The curve's two tables and the capacity's inverse are made once for the whole run.
+// The curve's table and the capacity's inverse are made once for the whole run.
 fn fill(
     powers: &[i64],
     frequencies: &[i64],
@@ -273,11 +273,9 @@ fn fill(
     requires { ⌜ runRefusal (now powers) (now frequencies) (now transfers) capacity (length (now scores)) ≡ 0 ⌝ }
     ensures { λ r. ⌜ now (scores .exit) ≡ runScores (now (powers .entry)) (now (frequencies .entry)) (now (transfers .entry)) capacity ⌝ }
 {
-    let uppers = curve::uppers();
-    let lowers = curve::lowers();
+    let pairs = curve::pairs();
     fill_by(
-        &uppers,
-        &lowers,
+        &pairs,
         powers,
         frequencies,
         transfers,
@@ -288,8 +286,7 @@ fn fill(
 }
 
 fn fill_by(
-    uppers: &[i64],
-    lowers: &[i64],
+    pairs: &[i64],
     powers: &[i64],
     frequencies: &[i64],
     transfers: &[i64],
@@ -298,7 +295,7 @@ fn fill_by(
     scores: &mut [u8],
 )
     requires { ⌜ inverse ≡ inverseOf (natAbs (capacity .0)) ⌝ }
-    requires { ⌜ (now uppers ≡ uppersOf) × (now lowers ≡ lowersOf) ⌝ }
+    requires { ⌜ now pairs ≡ pairsOf ⌝ }
     requires { ⌜ runRefusal (now powers) (now frequencies) (now transfers) capacity (length (now scores)) ≡ 0 ⌝ }
     ensures { λ r. ⌜ now (scores .exit) ≡ runScores (now (powers .entry)) (now (frequencies .entry)) (now (transfers .entry)) capacity ⌝ }
 {
@@ -308,8 +305,7 @@ fn fill_by(
         let transfer = transfers[i];
         let frequency = frequencies[i];
         let s = judged_in(
-            uppers,
-            lowers,
+            pairs,
             Kilowatts(power),
             Kilowatts(transfer),
             capacity,
@@ -321,10 +317,9 @@ fn fill_by(
     }
 }
 
-// `judged_by`, with the curve's tables at hand.
+// `judged_by`, with the curve's table at hand.
 fn judged_in(
-    uppers: &[i64],
-    lowers: &[i64],
+    pairs: &[i64],
     power: Kilowatts,
     transfer: Kilowatts,
     capacity: Kilowatts,
@@ -332,13 +327,13 @@ fn judged_in(
     frequency: Millihertz,
 ) -> u8
     requires { ⌜ inverse ≡ inverseOf (natAbs (capacity .0)) ⌝ }
-    requires { ⌜ (now uppers ≡ uppersOf) × (now lowers ≡ lowersOf) ⌝ }
+    requires { ⌜ now pairs ≡ pairsOf ⌝ }
     requires { ⌜ secondRefusal power transfer capacity frequency ≡ 0 ⌝ }
     ensures { λ r. ⌜ r ≡ judgedBy power transfer capacity frequency ⌝ }
 {
-    let k = curve::place(frequency);
-    let upper = uppers[k];
-    let lower = lowers[k];
+    let k = 2 * curve::place(frequency);
+    let upper = pairs[k];
+    let lower = pairs[k + 1];
     by_bounds(power, transfer, capacity, inverse, upper, lower)
 }
 

@@ -5,20 +5,14 @@ use Rattle.score.proofs.Run.{run-fit}
 use Rattle.score.proofs.fill.Statement.{statement}
 use Rattle.score.proofs.fill.Tie as tie
 
-uppers-requires : tie.Need-uppers-requires
-uppers-requires c κs = search needs
-
-lowers-requires : tie.Need-lowers-requires
-lowers-requires c κs = search needs
+pairs-requires : tie.Need-pairs-requires
+pairs-requires c κs = search needs
 
 slice-aggregate-fill-by : tie.Need-slice-aggregate-fill-by
 slice-aggregate-fill-by c = search needs
 
-slice-aggregate-fill-by-2 : tie.Need-slice-aggregate-fill-by-2
-slice-aggregate-fill-by-2 c = search needs
-
 inverse-requires : tie.Need-inverse-requires
-inverse-requires c κs = inside (run-fit _ _ _ _ _ (c .before .before .before .before .before .pre) .capacity-fits)
+inverse-requires c κs = inside (run-fit _ _ _ _ _ (c .before .before .before .pre) .capacity-fits)
 
 fill-by-requires : tie.Need-fill-by-requires
 fill-by-requires c κs = search needs
@@ -33,10 +27,8 @@ pub fill-spec : {M : Type 1} → statement M
 fill-spec =
     tie.close
     (tie.spec
-    uppers-requires
-    lowers-requires
+    pairs-requires
     slice-aggregate-fill-by
-    slice-aggregate-fill-by-2
     inverse-requires
     fill-by-requires
     same-length

@@ -18,11 +18,11 @@ use Rattle.score.proofs.fill_by.Statement.{statement}
 use Rattle.score.proofs.fill_by.Tie as tie
 
 abbrev Inv-loop : tie.InvT-loop
-Inv-loop uppers lowers powers frequencies transfers capacity inverse scores₀ i₀ scores i =
+Inv-loop pairs powers frequencies transfers capacity inverse scores₀ i₀ scores i =
     (i ≤ length powers) × (length scores ≡ length powers) × (scores ≡ filled (runScoreAt powers frequencies transfers capacity) 0 scores₀ i)
 
 abbrev μ-loop : tie.MeasureT-loop
-μ-loop uppers lowers powers frequencies transfers capacity inverse scores₀ i₀ scores i = length powers - i
+μ-loop pairs powers frequencies transfers capacity inverse scores₀ i₀ scores i = length powers - i
 
 fit : (s : tie.Start Inv-loop μ-loop) → RunFit (s .args .powers .now) (s .args .frequencies .now) (s .args .transfers .now) (s .args .capacity) (length (s .args .scores .now))
 fit s = run-fit _ _ _ _ _ (s .pre .1 .1)

@@ -1,18 +1,17 @@
--- `score::judged_in` meets its contract: the tables have the bounds of a frequency at its place. Assumes nothing.
-use Prim.Native.Nat.{_<_}
-use mathlib.Core.Path.{_≡_, ap, ap₂, _∙_}
-use mathlib.Core.List.{List}
+-- `score::judged_in` meets its contract: the table has the pair of a frequency at its place. Assumes nothing.
+use Prim.Native.Nat.{_+_, _*_, _<_}
+use mathlib.Core.Path.{_≡_, _∙_}
 use native.Mathlib.Omega.{arith}
-use lib.IntN.{ℤ, pos}
-use lib.ListN.{length, getD}
+use lib.IntN.{pos}
+use lib.ListN.{getD}
 use mir.Syntax.{w64}
 use mir.Val.{SFits, toZ, ofZ}
 use mir.Facts.{toZ-ofZ}
 use borrow.Author.Needs.{needs}
 use Rattle.whole.proofs.Signed.{inside}
 use Rattle.whole.proofs.Sums.{in-within}
-use Rattle.curve.specs.Curve.{upperAt, lowerAt, placeAt}
-use Rattle.curve.proofs.Limits.{place-within, length-uppers, length-lowers, upper-in, lower-in, upper-within, lower-within, bounds-ordered}
+use Rattle.curve.specs.Curve.{upperAt, lowerAt}
+use Rattle.curve.proofs.Limits.{place-within, pair-inside, upper-in, lower-in, upper-within, lower-within, bounds-ordered}
 use Rattle.score.specs.Score.{judgedBy}
 use Rattle.score.proofs.Laws.{Fit, second-fit}
 use Rattle.score.proofs.judged_in.Statement.{statement}
@@ -27,41 +26,36 @@ place-requires c κs = search needs
 place-small : (c : tie.After-place) → c .place .result < 501
 place-small c = let p = c .place .ensures in omega (arith, place-within (c .before .args .frequency .0))
 
+mul-k : tie.Need-mul-k
+mul-k c = let p = place-small c in record { fits = omega arith }
+
 mul-upper : tie.Need-mul-upper
 mul-upper c = let p = place-small c in record { fits = omega arith }
 
 shared-slice-copy-out-upper : tie.Need-shared-slice-copy-out-upper
-shared-slice-copy-out-upper c =
-    let long : length (c .before .args .uppers .now) ≡ 501 = ap (λ (l : List ℤ). length l) (c .before .pre .1 .0 .0) ∙ length-uppers in
-    let p = place-small c in
-    omega arith
+shared-slice-copy-out-upper c = omega (arith, pair-inside _ (c .before .pre .1 .0) (c .place .ensures))
+
+add-lower : tie.Need-add-lower
+add-lower c = let p = place-small (c .before) in record { fits = omega arith }
 
 mul-lower : tie.Need-mul-lower
 mul-lower c = let p = place-small (c .before) in record { fits = omega arith }
 
 shared-slice-copy-out-lower : tie.Need-shared-slice-copy-out-lower
-shared-slice-copy-out-lower c =
-    let s = c .before .before in
-    let long : length (s .args .lowers .now) ≡ 501 = ap (λ (l : List ℤ). length l) (s .pre .1 .0 .1) ∙ length-lowers in
-    let p = place-small (c .before) in
-    omega arith
+shared-slice-copy-out-lower c = pair-inside _ (c .before .before .pre .1 .0) (c .before .place .ensures)
 
-upper-fits : (c : tie.After-upper) → SFits w64 (getD (c .before .before .args .uppers .now) (c .before .place .result) (pos 0))
+upper-fits : (c : tie.After-upper) → SFits w64 (getD (c .before .before .args .pairs .now) (2 * c .before .place .result) (pos 0))
 upper-fits c = search needs
 
-lower-fits : (c : tie.After-lower) → SFits w64 (getD (c .before .before .before .args .lowers .now) (c .before .before .place .result) (pos 0))
+lower-fits : (c : tie.After-lower) → SFits w64 (getD (c .before .before .before .args .pairs .now) (2 * c .before .before .place .result + 1) (pos 0))
 lower-fits c = search needs
 
 -- the two bounds, as they are handed on
-upper-is : (c : tie.After-upper) → toZ w64 (ofZ w64 (getD (c .before .before .args .uppers .now) (c .before .place .result) (pos 0))) ≡ upperAt (c .before .before .args .frequency .0)
-upper-is c =
-    let s = c .before .before in
-    toZ-ofZ (upper-fits c) ∙ ap₂ (λ l k. getD l k (pos 0)) (s .pre .1 .0 .0) (c .before .place .ensures) ∙ upper-in (s .args .frequency .0)
+upper-is : (c : tie.After-upper) → toZ w64 (ofZ w64 (getD (c .before .before .args .pairs .now) (2 * c .before .place .result) (pos 0))) ≡ upperAt (c .before .before .args .frequency .0)
+upper-is c = toZ-ofZ (upper-fits c) ∙ upper-in _ (c .before .before .pre .1 .0) (c .before .place .ensures)
 
-lower-is : (c : tie.After-lower) → toZ w64 (ofZ w64 (getD (c .before .before .before .args .lowers .now) (c .before .before .place .result) (pos 0))) ≡ lowerAt (c .before .before .before .args .frequency .0)
-lower-is c =
-    let s = c .before .before .before in
-    toZ-ofZ (lower-fits c) ∙ ap₂ (λ l k. getD l k (pos 0)) (s .pre .1 .0 .1) (c .before .before .place .ensures) ∙ lower-in (s .args .frequency .0)
+lower-is : (c : tie.After-lower) → toZ w64 (ofZ w64 (getD (c .before .before .before .args .pairs .now) (2 * c .before .before .place .result + 1) (pos 0))) ≡ lowerAt (c .before .before .before .args .frequency .0)
+lower-is c = toZ-ofZ (lower-fits c) ∙ lower-in _ (c .before .before .before .pre .1 .0) (c .before .before .place .ensures)
 
 by-bounds-requires : tie.Need-by-bounds-requires
 by-bounds-requires c κs =
@@ -79,8 +73,10 @@ judged-in-spec =
     tie.close
     (tie.spec
     place-requires
+    mul-k
     mul-upper
     shared-slice-copy-out-upper
+    add-lower
     mul-lower
     shared-slice-copy-out-lower
     by-bounds-requires
