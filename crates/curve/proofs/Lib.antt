@@ -2,4 +2,6 @@
 mod Entries
 mod Laws
 pub mod Limits
+pub mod Accepted
 mod Determined
+mod Refused

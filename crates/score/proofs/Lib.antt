@@ -3,4 +3,6 @@ pub mod Laws
 mod ByInverse
 pub mod Run
 pub mod Rates
+pub mod Accepted
 mod Determined
+mod Refused

@@ -51,6 +51,24 @@ rolling-at earlier scores t h =
     let one : t + 1 ≡ suc t = omega arith in
     rw (rolling-carried earlier scores, three, two, one) (fourth _ _ _ scores t (omega arith))
 
+-- "The windows of seconds 1, 2 and 3 hold only this hour's seconds": the rolling rates of an hour that begins with the scores x₁ x₂ x₃
+pub record Windows (x₁ x₂ x₃ : ℕ) (scores : List ℕ) : Type 0 where
+  pub second-1 : getD (rolling [] scores) 0 0 ≡ x₁
+  pub second-2 : getD (rolling [] scores) 1 0 ≡ max x₁ x₂
+  pub second-3 : getD (rolling [] scores) 2 0 ≡ max x₁ (max x₂ x₃)
+  pub from-4 : (t : ℕ) → t + 3 < length scores
+      → getD (rolling [] scores) (t + 3) 0 ≡ max (getD scores (t + 3) 0) (max (getD scores (t + 2) 0) (max (getD scores (t + 1) 0) (getD scores t 0)))
+
+pub hour-windows : (x₁ x₂ x₃ : ℕ) (later : List ℕ) → Windows x₁ x₂ x₃ (x₁ ∷ x₂ ∷ x₃ ∷ later)
+hour-windows x₁ x₂ x₃ later =
+    let scores = x₁ ∷ x₂ ∷ x₃ ∷ later in
+    record {
+      second-1 = rw (rolling-carried [] scores) (omega arith);
+      second-2 = rw (rolling-carried [] scores) (omega arith);
+      second-3 = rw (rolling-carried [] scores) (omega arith);
+      from-4 = rolling-at [] scores;
+    }
+
 pub length-rolling : (earlier scores : List ℕ) → length (rolling earlier scores) ≡ length scores
 length-rolling earlier scores = rw (rolling-carried earlier scores) (as-many _ _ _ scores)
   where

@@ -1,7 +1,7 @@
 -- A run of seconds that is not refused, test by test, and each of its seconds. By the tests of its refusal. Assumes nothing.
-use Prim.Native.Nat.{ℕ, zero, suc, _<_}
+use Prim.Native.Nat.{ℕ, _<_}
 use mathlib.Core.Path.{_≡_, refl, sym, ap, _∙_}
-use mathlib.Core.Bool.{Bool, true, false, _&&_, and-false}
+use mathlib.Core.Bool.{Bool, true, false, _&&_}
 use mathlib.Core.List.{List}
 use native.Mathlib.Omega.{arith}
 use lib.Dec.{eqb}
@@ -9,10 +9,11 @@ use lib.IntN.{ℤ, pos}
 use lib.ListN.{length, getD}
 use borrow.Author.Tests.{eqb-true, eq-eqb}
 use Rattle.whole.specs.Choice.{unless}
-use Rattle.whole.specs.Folds.{foldTo, allTo}
+use Rattle.whole.specs.Folds.{allTo}
 use Rattle.whole.specs.Whole.{minus, inRange, allInRange}
 use Rattle.whole.specs.Runs.{listed}
 use Rattle.whole.proofs.Choice.{and-both, passed}
+use Rattle.whole.proofs.Folds.{all-and}
 use Rattle.whole.proofs.Sums.{all-inside}
 use Rattle.units.specs.declared.Kilowatts.{Kilowatts}
 use Rattle.score.specs.Score.{isCapacity, secondRefusal}
@@ -52,6 +53,12 @@ module _ (powers frequencies transfers : List ℤ) (capacity : Kilowatts) (place
         frequencies-fit = readings .1;
       }
 
+  pub fit-run : RunFit powers frequencies transfers capacity places → runRefusal powers frequencies transfers capacity places ≡ 0
+  unfolding runRefusal
+  fit-run f =
+      let n = length powers in
+      rw (eq-eqb (length frequencies) n (f .as-frequencies), eq-eqb (length transfers) n (f .as-transfers), eq-eqb places n (f .as-places), f .capacity-fits, f .transfers-fit, f .powers-fit, f .frequencies-fit)
+
   -- each second of it
   pub run-second : RunFit powers frequencies transfers capacity places → (i : ℕ) → i < length powers
       → secondRefusal (record { 0 = getD powers i (pos 0) }) (record { 0 = getD transfers i (pos 0) }) capacity (record { 0 = getD frequencies i (pos 0) }) ≡ 0
@@ -72,17 +79,6 @@ module _ (powers frequencies transfers : List ℤ) (capacity : Kilowatts) (place
   run-scores-is n e = ap (listed (runScoreAt powers frequencies transfers capacity) 0) e
 
 -- ---- the seconds, looked at once
-
-cross : (a b x y : Bool) → ((a && b) && (x && y)) ≡ ((a && x) && (b && y))
-cross true true x y = refl
-cross true false x y = sym (and-false x)
-cross false b x y = refl
-
--- all of two tests at once
-all-and : (n : ℕ) (a b : ℕ → Bool) → allTo n (λ k. a k && b k) ≡ (allTo n a && allTo n b)
-unfolding foldTo
-all-and zero a b = refl
-all-and (suc n) a b = rw (all-and n a b) (cross (allTo n a) (allTo n b) (a n) (b n))
 
 -- where every test passed, and where one failed
 none : (t r : Bool) → (t && r) ≡ true → unless t 10 (unless r 4 0) ≡ 0

@@ -65,3 +65,14 @@ all-fails (suc n) t k l q =
     ⊎-elim (λ (e : k ≡ n). ap (λ b. allTo n t && b) (ap t (sym e) ∙ q) ∙ and-false (allTo n t))
     (λ (h : k < n). ap (λ b. b && t n) (all-fails n t k h q))
     (eq-or-lt-of-le (le-of-suc-le-suc l))
+
+-- all of two tests at once
+cross : (a b x y : Bool) → ((a && b) && (x && y)) ≡ ((a && x) && (b && y))
+cross true true x y = refl
+cross true false x y = sym (and-false x)
+cross false b x y = refl
+
+pub all-and : (n : ℕ) (a b : ℕ → Bool) → allTo n (λ k. a k && b k) ≡ (allTo n a && allTo n b)
+unfolding foldTo
+all-and zero a b = refl
+all-and (suc n) a b = rw (all-and n a b) (cross (allTo n a) (allTo n b) (a n) (b n))
