@@ -191,11 +191,11 @@ pub fn run_scores(
 ) -> u8
     ensures { λ r. ⌜ (r ≡ runRefusal (now (powers .entry)) (now (frequencies .entry)) (now (transfers .entry)) capacity (length (now (scores .entry)))) × (now (scores .exit) ≡ runLeft (now (powers .entry)) (now (frequencies .entry)) (now (transfers .entry)) capacity (now (scores .entry))) ⌝ }
 {
-    let k = run_refusal(powers, frequencies, transfers, capacity, scores.len());
-    if k == 0 {
+    let number = run_refusal(powers, frequencies, transfers, capacity, scores.len());
+    if number == 0 {
         fill(powers, frequencies, transfers, capacity, scores);
     }
-    k
+    number
 }
 
 // 1, 2, 10, 4; 0 lets the run through.

@@ -10,7 +10,7 @@ run-refusal-requires : tie.Need-run-refusal-requires
 run-refusal-requires c κs = search needs
 
 fill-requires : tie.Need-fill-requires
-fill-requires c κs = search needs
+fill-requires c κs = let t = c .before in sym (t .before .run-refusal .ensures) ∙ t .if1 .taken
 
 same-length : tie.Need-same-length
 same-length c = search needs
