@@ -61,10 +61,10 @@ fn with_hour(
     sums::with_settlement(sum, s)
 }
 
-fn redraw(powers: &mut [i64], n: u64, x: u64, capacity: u64, targets: &[i64]) {
+fn redraw(powers: &mut [i64], n: u64, x: u64, capacity: u64, transfers: &[i64]) {
     let place = (n % 3600) as usize;
     if place < powers.len() {
-        let p = readings::drawn(place, x, capacity, targets);
+        let p = readings::drawn(place, x, capacity, transfers);
         powers[place] = p;
     }
 }
@@ -73,6 +73,7 @@ fn hours(
     shifting: bool,
     powers: &mut [i64],
     frequencies: &[i64],
+    transfers: &[i64],
     capacity: u64,
     terms: Terms,
     scores: &mut [u8],
@@ -83,7 +84,7 @@ fn hours(
     let mut n = 0;
     while n < count {
         x = readings::next(x);
-        redraw(powers, n, x, capacity, &terms.targets);
+        redraw(powers, n, x, capacity, transfers);
         sum = with_hour(sum, shifting, powers, frequencies, terms, scores);
         n += 1;
     }
@@ -93,13 +94,16 @@ fn hours(
 fn run(shifting: bool, capacity: u64, targets: [i64; 5], count: u64) -> u64 {
     let mut powers = [0; 3600];
     let mut frequencies = [0; 3600];
+    let mut transfers = [0; 3600];
     let mut scores = [0u8; 3600];
-    readings::fill_powers(&mut powers, capacity, &targets);
+    ramp::plan(&targets, &mut transfers);
+    readings::fill_powers(&mut powers, capacity, &transfers);
     readings::fill_frequencies(&mut frequencies);
     hours(
         shifting,
         &mut powers,
         &frequencies,
+        &transfers,
         capacity,
         terms_of(capacity, targets),
         &mut scores,

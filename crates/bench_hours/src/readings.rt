@@ -57,25 +57,29 @@ fn power(wave: u64, x: u64, capacity: u64, transfer: i64) -> i64
     answer + transfer
 }
 
-fn transfer_of(targets: &[i64], second: usize) -> i64
+// The planned transfer of a second.
+fn transfer_of(transfers: &[i64], second: usize) -> i64
     ensures { λ r. ⌜ Within 100000 r ⌝ }
 {
-    let planned = ramp::transfer_at(targets, second);
-    planned.0
+    let planned = whole::at(transfers, second);
+    if whole::within(planned, -100_000, 100_000) {
+        return planned;
+    }
+    0
 }
 
 // The power of a second, drawn by x.
-pub fn drawn(second: usize, x: u64, capacity: u64, targets: &[i64]) -> i64 {
-    let transfer = transfer_of(targets, second);
+pub fn drawn(second: usize, x: u64, capacity: u64, transfers: &[i64]) -> i64 {
+    let transfer = transfer_of(transfers, second);
     power(wave(second, x), x, capacity, transfer)
 }
 
-pub fn fill_powers(powers: &mut [i64], capacity: u64, targets: &[i64]) {
+pub fn fill_powers(powers: &mut [i64], capacity: u64, transfers: &[i64]) {
     let mut x = 1;
     let mut i = 0;
     while i < powers.len() {
         x = next(x);
-        let p = drawn(i, x, capacity, targets);
+        let p = drawn(i, x, capacity, transfers);
         powers[i] = p;
         i += 1;
     }

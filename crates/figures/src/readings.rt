@@ -30,15 +30,9 @@ pub fn score_stretch(run: &mut [u8], from: usize, to: usize, score: u8) {
     }
 }
 
-// The planned transfer of each second.
+// The planned transfer of each second of an hour.
 pub fn follow(run: &mut [i64], targets: &[i64]) {
-    let mut i = 0;
-    while i < run.len() {
-        let planned = ramp::transfer_at(targets, i);
-        let power = planned.0;
-        run[i] = power;
-        i += 1;
-    }
+    ramp::plan(targets, run);
 }
 
 // A frequency from 59,700 to 60,300.

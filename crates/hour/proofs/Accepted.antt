@@ -1,6 +1,6 @@
 -- An accepted hour is the paper's formula: no part of it is refused where the hour is not, so each part's answer is its plain formula. Stated over the
 -- contract of `hour` as the source states it. Assumes nothing.
-use Prim.Native.Nat.{ℕ, zero, suc, _+_, _/_, _%_, _≤_, _<_}
+use Prim.Native.Nat.{ℕ, zero, suc, _+_, _≤_, _<_}
 use mathlib.Core.Path.{_≡_, refl, sym, ap, ap₂, _∙_, subst, subst₂}
 use mathlib.Core.Bool.{Bool, true, false, _&&_}
 use mathlib.Core.List.{List, []}
@@ -21,8 +21,8 @@ use Rattle.units.specs.declared.Kilowatts.{Kilowatts}
 use Rattle.units.specs.declared.Millihertz.{Millihertz}
 use Rattle.units.specs.declared.Dollars.{Dollars}
 use Rattle.curve.specs.Curve.{upperAt, lowerAt}
-use Rattle.ramp.specs.Ramp.{rampAt, transferAt}
-use Rattle.ramp.proofs.Laws.{transfer-within, transfer-is, within-target, ramp-level}
+use Rattle.ramp.specs.Ramp.{transferAt}
+use Rattle.ramp.proofs.Laws.{transfer-within, transfer-none, within-target}
 use Rattle.score.specs.Score.{percentOutput, scoreOf, secondScore, secondRefusal}
 use Rattle.score.specs.Rolling.{rolling, smallest, hourlyRate}
 use Rattle.score.specs.declared.Rated.{Rated}
@@ -35,7 +35,7 @@ use Rattle.fees.specs.Fees.{isPrice, fee, feeAnswer, qualityPart, qualityAnswer
 use Rattle.fees.proofs.Laws.{fee-granted, fees-fit, quality-granted, energy-granted, no-energy}
 use Rattle.fees.specs.declared.Charged.{Charged}
 use Rattle.hour.specs.Hour.{lengthsFit, pricesFit, readingsFit, quarters, hourRefusal, scoreAt, scoresOf, scoresLeft, answerOf, refusedOf, settledOf, hourOf, dRegTerms}
-use Rattle.hour.specs.Accepted.{Accepted, plan}
+use Rattle.hour.specs.Accepted.{Accepted}
 use Rattle.hour.specs.declared.Terms.{Terms}
 use Rattle.hour.specs.declared.Settlement.{Settlement}
 use contract.Lifetimes.{Lfts}
@@ -67,23 +67,22 @@ module _ (powers frequencies : List ℤ) (places : ℕ) (t : Terms) (thresholds 
 
   score-plain : (i : ℕ) → i < 3600
       → scoreAt powers frequencies t i
-      ≡ scoreOf (percentOutput (getD powers i (pos 0)) (plan (t .targets) i) (t .capacity .0)) (upperAt (getD frequencies i (pos 0))) (lowerAt (getD frequencies i (pos 0)))
+      ≡ scoreOf (percentOutput (getD powers i (pos 0)) (transferAt (t .targets) i) (t .capacity .0)) (upperAt (getD frequencies i (pos 0))) (lowerAt (getD frequencies i (pos 0)))
   unfolding scoreAt
   score-plain i h =
       let l = lengths in
       let p : Kilowatts = record { 0 = getD powers i (pos 0) } in
       let q : Millihertz = record { 0 = getD frequencies i (pos 0) } in
-      let moved = transferAt (t .targets) i in
+      let moved : Kilowatts = record { 0 = transferAt (t .targets) i } in
       let in-powers : i < length powers = omega arith in
       let in-frequencies : i < length frequencies = omega arith in
       let number = second-refusal p moved (t .capacity) q ∙ fit-second p moved (t .capacity) q (record {
         capacity = f .capacity;
-        transfer = within-target (moved .0) (transfer-within (t .targets) i);
+        transfer = within-target (moved .0) (transfer-within (t .targets) i (f .targets));
         power = all-inside (minus 200000) (pos 200000) powers (readings .0) i in-powers;
         frequency = all-inside (pos 55000) (pos 65000) frequencies (readings .1) i in-frequencies;
       }) in
       score-is p moved (t .capacity) q number
-      ∙ ap (λ (z : ℤ). scoreOf (percentOutput (p .0) z (t .capacity .0)) (upperAt (q .0)) (lowerAt (q .0))) (transfer-is (t .targets) i (f .targets))
 
   scores-long : length (scoresOf powers frequencies t) ≡ 3600
   unfolding scoresOf
@@ -105,7 +104,7 @@ module _ (powers frequencies : List ℤ) (places : ℕ) (t : Terms) (thresholds 
         small = are-scores xs (λ i h.
             let l : i < 3600 = omega (arith, scores-long) in
             subst (λ (n : ℕ). n ≤ 100) (sym (score-place i l))
-            (score-within (record { 0 = getD powers i (pos 0) }) (transferAt (t .targets) i) (t .capacity) (record { 0 = getD frequencies i (pos 0) })));
+            (score-within (record { 0 = getD powers i (pos 0) }) (record { 0 = transferAt (t .targets) i }) (t .capacity) (record { 0 = getD frequencies i (pos 0) })));
       }))
 
   factor-plain : (rate : ℕ) → rate ≤ 100 → factorAnswer thresholds factors rate .factor ≡ getD factors (placeOf thresholds (pos rate)) (pos 0)
@@ -203,9 +202,6 @@ zeros-at zero q = refl
 zeros-at (suc n) zero = refl
 zeros-at (suc n) (suc q) = zeros-at n q
 
-no-plan : (i : ℕ) → plan (replicate 5 (pos 0)) i ≡ pos 0
-no-plan i = ap₂ (λ (x y : ℤ). rampAt x y (i % 900 + 1)) (zeros-at 5 (i / 900)) (zeros-at 5 (i / 900 + 1)) ∙ ramp-level (pos 0) (i % 900 + 1)
-
 pub dreg-hour-accepted : (κs : Lfts 5) (a : Dens κs dreg-kinds.ps) (r : Settlement) (s : AtExit (endedOf 5 dreg-kinds.ps dreg-kinds.r) κs)
     → dreg-reads.Post κs a r s → r .refusal ≡ 0 →
     let t = dRegTerms (a .1 .1 .0) (a .1 .1 .1 .0) (a .1 .1 .1 .1 .0) in
@@ -221,7 +217,7 @@ dreg-hour-accepted κs a r s met none =
     let nothing : r .energy .0 ≡ pos 0 = e .energy ∙ no-energy powers (quarters t) (pos 0) (pos 0) (λ q l. zeros-at 4 q) in (
       e,
       record {
-        score = λ i h. e .score i h ∙ ap (λ (z : ℤ). scoreOf (percentOutput (getD powers i (pos 0)) z (a .1 .1 .0 .0)) (upperAt (getD frequencies i (pos 0))) (lowerAt (getD frequencies i (pos 0)))) (no-plan i);
+        score = λ i h. e .score i h ∙ ap (λ (z : ℤ). scoreOf (percentOutput (getD powers i (pos 0)) z (a .1 .1 .0 .0)) (upperAt (getD frequencies i (pos 0))) (lowerAt (getD frequencies i (pos 0)))) (transfer-none (replicate 5 (pos 0)) i (zeros-at 5));
         energy = nothing;
         amount = e .amount ∙ ap (λ (z : ℤ). r .quality .0 +ℤ z) nothing ∙ +ℤ-idr (r .quality .0);
       },

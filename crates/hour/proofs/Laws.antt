@@ -101,15 +101,16 @@ readings-last powers frequencies places t ts fs =
 
 module _ (powers frequencies : List ℤ) (t : Terms) where
   pub run-refusal-is : (places : ℕ) → lengthsFit (length powers) (length frequencies) places ≡ true → isCapacity (t .capacity .0) ≡ true
+      → allInRange (minus 100000) (pos 100000) (t .targets) ≡ true
       → runRefusal powers frequencies (planOf (t .targets)) (t .capacity) places ≡ unless (readingsFit powers frequencies) badReading 0
   unfolding runRefusal
-  run-refusal-is places e c =
+  run-refusal-is places e c inside =
       let l = long (length powers) (length frequencies) places e in
       let p = l .of-powers in
       let f : length frequencies ≡ length powers = l .of-frequencies ∙ sym p in
       let n : length (planOf (t .targets)) ≡ length powers = length-plan (t .targets) ∙ sym p in
       let s : places ≡ length powers = l .of-places ∙ sym p in
-      rw (eq-eqb _ _ f, eq-eqb _ _ n, eq-eqb _ _ s, c, plan-inside (t .targets))
+      rw (eq-eqb _ _ f, eq-eqb _ _ n, eq-eqb _ _ s, c, plan-inside (t .targets) inside)
 
   pub run-scores-are : length powers ≡ 3600 → runScores powers frequencies (planOf (t .targets)) (t .capacity) ≡ scoresOf powers frequencies t
   unfolding runScores runScoreAt scoreAt

@@ -1,12 +1,12 @@
 -- AN ACCEPTED HOUR, as document 01's sentences say it, from the readings to the amount, with no refusal in it: what proofs/Accepted.antt shows of
 -- every hour that is not refused.
-use Prim.Native.Nat.{ℕ, _+_, _/_, _%_, _<_}
+use Prim.Native.Nat.{ℕ, _<_}
 use mathlib.Core.Path.{_≡_}
 use mathlib.Core.List.{List, []}
 use lib.IntN.{ℤ, pos, _+ℤ_}
 use lib.ListN.{length, getD}
 use Rattle.curve.specs.Curve.{upperAt, lowerAt}
-use Rattle.ramp.specs.Ramp.{rampAt}
+use Rattle.ramp.specs.Ramp.{transferAt}
 use Rattle.score.specs.Score.{percentOutput, scoreOf}
 use Rattle.score.specs.Rolling.{rolling, smallest}
 use Rattle.bands.specs.Bands.{placeOf}
@@ -15,17 +15,14 @@ use Rattle.hour.specs.Hour.{quarters}
 use Rattle.hour.specs.declared.Terms.{Terms}
 use Rattle.hour.specs.declared.Settlement.{Settlement}
 
--- the scheduled transfer of the second at place i: its quarter's ramp, from the last target to the quarter's own
-abbrev pub plan : List ℤ → ℕ → ℤ
-plan targets i = rampAt (getD targets (i / 900) (pos 0)) (getD targets (i / 900 + 1) (pos 0)) (i % 900 + 1)
-
 pub record Accepted (powers frequencies : List ℤ) (t : Terms) (thresholds factors : List ℤ) (scores : List ℕ) (r : Settlement) : Type 0 where
   -- an hour has 3,600 scores
   pub seconds : length scores ≡ 3600
-  -- each is the score of the percent output of its second, by the bounds of the frequency of the second before
+  -- each is the score of the percent output of its second, less the transfer that its quarter's ramp plans, by the bounds of the frequency of the
+  -- second before
   pub score : (i : ℕ) → i < 3600
       → getD scores i 0
-      ≡ scoreOf (percentOutput (getD powers i (pos 0)) (plan (t .targets) i) (t .capacity .0)) (upperAt (getD frequencies i (pos 0))) (lowerAt (getD frequencies i (pos 0)))
+      ≡ scoreOf (percentOutput (getD powers i (pos 0)) (transferAt (t .targets) i) (t .capacity .0)) (upperAt (getD frequencies i (pos 0))) (lowerAt (getD frequencies i (pos 0)))
   -- the hourly rate is the smallest rolling rate
   pub rate : r .rate ≡ smallest (rolling [] scores)
   -- the factor is that of the first record whose threshold is at most the rate

@@ -57,7 +57,7 @@ termsRefusal powers frequencies places t thresholds factors =
 -- frequencies those of 0 to 3,599, so the two stand at one place.
 unfoldable pub scoreAt : List ℤ → List ℤ → Terms → ℕ → ℕ
 scoreAt powers frequencies t i =
-    secondScore (record { 0 = getD powers i (pos 0) }) (transferAt (t .targets) i) (t .capacity) (record { 0 = getD frequencies i (pos 0) }) .score
+    secondScore (record { 0 = getD powers i (pos 0) }) (record { 0 = transferAt (t .targets) i }) (t .capacity) (record { 0 = getD frequencies i (pos 0) }) .score
 
 unfoldable pub scoresOf : List ℤ → List ℤ → Terms → List ℕ
 scoresOf powers frequencies t = listed (scoreAt powers frequencies t) 0 3600

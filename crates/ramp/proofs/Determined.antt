@@ -7,10 +7,6 @@ use Rattle.ramp.proofs.ramp.Reads as ramp
 use Rattle.ramp.proofs.ramp.Kinds as ramp-kinds
 use Rattle.ramp.proofs.plan.Reads as plan
 use Rattle.ramp.proofs.plan.Kinds as plan-kinds
-use Rattle.ramp.proofs.planned_at.Reads as planned-at
-use Rattle.ramp.proofs.planned_at.Kinds as planned-at-kinds
-use Rattle.ramp.proofs.transfer_at.Reads as transfer-at
-use Rattle.ramp.proofs.transfer_at.Kinds as transfer-at-kinds
 
 ramp-determined : Determined 1 ramp-kinds.ps ramp-kinds.r ramp.Post
 ramp-determined κs a x y s t p q = p .0 ∙ sym (q .0)
@@ -23,9 +19,3 @@ plan-determined κs a x y s t p q = p .0 ∙ sym (q .0)
 
 plan-run-determined : LeftDetermined 2 plan-kinds.ps plan-kinds.r (λ κs s. now (s .1 .0)) plan.Post
 plan-run-determined κs a x y s t p q = p .1 ∙ sym (q .1)
-
-planned-at-determined : Determined 0 planned-at-kinds.ps planned-at-kinds.r planned-at.Post
-planned-at-determined κs a x y s t p q = p ∙ sym q
-
-transfer-at-determined : Determined 1 transfer-at-kinds.ps transfer-at-kinds.r transfer-at.Post
-transfer-at-determined κs a x y s t p q = p ∙ sym q

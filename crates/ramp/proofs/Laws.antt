@@ -1,5 +1,5 @@
--- What a ramp answers, for the crates above: it stays between its targets, so that a second lies within 100,000 kW whatever was handed in; and
--- a second that is not refused is formula 1. By the sign of the difference. Assumes nothing.
+-- What a ramp answers, for the crates above: it stays between its targets, reaches the new one with second 300, and an hour's plan is the ramps of
+-- its quarters. By the sign of the difference. Assumes nothing.
 use mathlib.Core.Path.{_≡_, refl, sym, ap, ap₂, _∙_}
 use mathlib.Core.Bool.{true, false, _&&_}
 use mathlib.Core.List.{List}
@@ -20,7 +20,7 @@ use Rattle.whole.proofs.Rounding.{away-within, away-only, sign-up, sign-down}
 use Rattle.whole.proofs.Sums.{in-within, within-in, all-inside, inside-all}
 use Rattle.units.specs.Refusals.{wrongLength, badTransfer}
 use Rattle.units.specs.declared.Kilowatts.{Kilowatts}
-use Rattle.ramp.specs.Ramp.{rampAt, quarter, isTarget, areTargets, rampRefusal, plannedAt, targetAt, transferAt, planOf, planRefusal, planLeft}
+use Rattle.ramp.specs.Ramp.{rampAt, quarter, isTarget, areTargets, rampRefusal, transferAt, planOf, planRefusal, planLeft}
 
 -- the quarter, without writing its 900 seconds out
 pub quarter-is : (last target : ℤ) (n : ℕ) → n ≡ 900 → listed (rampAt last target) 1 n ≡ quarter last target
@@ -97,26 +97,6 @@ ramp-level z n =
     (λ (e : leb n 300 ≡ true). rw (e, +ℤ-invr z, zero-*ℤ (pos n), whole-part (pos 0)) (+ℤ-idr z))
     (λ (e : leb n 300 ≡ false). rw e)
 
--- ---- one second: within 100,000 whatever was handed in, and formula 1 where it is not refused
-
-pub planned-granted : (last target : Kilowatts) (n : ℕ) → areTargets (last .0) (target .0) ≡ true → plannedAt last target n .refusal ≡ 0
-unfolding plannedAt
-planned-granted last target n e = rw e
-
-pub planned-is : (last target : Kilowatts) (n : ℕ) → plannedAt last target n .refusal ≡ 0 → plannedAt last target n .power .0 ≡ rampAt (last .0) (target .0) n
-unfolding plannedAt
-planned-is last target n e =
-    by-test (areTargets (last .0) (target .0))
-    (λ (t : areTargets (last .0) (target .0) ≡ true). rw t)
-    (λ (t : areTargets (last .0) (target .0) ≡ false). let z : _≡_ {A = ℕ} 10 0 = rw t at e in absurd (omega arith))
-
-pub planned-within : (last target : Kilowatts) (n : ℕ) → Within 100000 (plannedAt last target n .power .0)
-unfolding plannedAt
-planned-within last target n =
-    by-test (areTargets (last .0) (target .0))
-    (λ (t : areTargets (last .0) (target .0) ≡ true). let w = targets-within (last .0) (target .0) t in rw t (ramp-within (last .0) (target .0) n (w .0) (w .1)))
-    (λ (t : areTargets (last .0) (target .0) ≡ false). rw t (omega arith))
-
 -- ---- an hour's plan
 
 -- a target past the list's end is 0
@@ -126,18 +106,11 @@ at-target targets q e =
     (λ (t : leb (length targets) q ≡ true). rw (List·getD-eq-default targets (pos 0) (leb-true (length targets) q t)) (within-target (pos 0) (omega arith)))
     (λ (t : leb (length targets) q ≡ false). all-inside (minus 100000) (pos 100000) targets e q (omega (arith, leb-false (length targets) q t)))
 
-pub transfer-within : (targets : List ℤ) (i : ℕ) → Within 100000 (transferAt targets i .0)
+pub transfer-within : (targets : List ℤ) (i : ℕ) → allInRange (minus 100000) (pos 100000) targets ≡ true → Within 100000 (transferAt targets i)
 unfolding transferAt
-transfer-within targets i = planned-within (targetAt targets (i / 900)) (targetAt targets (i / 900 + 1)) (i % 900 + 1)
-
-pub transfer-is : (targets : List ℤ) (i : ℕ) → allInRange (minus 100000) (pos 100000) targets ≡ true
-    → transferAt targets i .0 ≡ rampAt (getD targets (i / 900) (pos 0)) (getD targets (i / 900 + 1) (pos 0)) (i % 900 + 1)
-unfolding transferAt areTargets
-transfer-is targets i e =
-    let last = targetAt targets (i / 900) in
-    let target = targetAt targets (i / 900 + 1) in
-    planned-is last target (i % 900 + 1)
-    (planned-granted last target (i % 900 + 1) (both (at-target targets (i / 900) e) (at-target targets (i / 900 + 1) e)))
+transfer-within targets i e =
+    ramp-within (getD targets (i / 900) (pos 0)) (getD targets (i / 900 + 1) (pos 0)) (i % 900 + 1)
+    (in-within (at-target targets (i / 900) e)) (in-within (at-target targets (i / 900 + 1) e))
 
 -- an hour's plan that is not refused
 pub record PlanFit (targets : List ℤ) (places : ℕ) : Type 0 where
@@ -154,34 +127,35 @@ plan-fit targets places e =
     record { five = eqb-true (length targets) 5 (n .0); long = eqb-true places 3600 (n .1); inside = t .0 }
 
 -- each quarter's ramp is its part of the plan, without writing its 900 seconds out
-pub plan-quarter : (targets : List ℤ) (q n : ℕ) → n ≡ 900 → allInRange (minus 100000) (pos 100000) targets ≡ true
-    → quarter (getD targets q (pos 0)) (getD targets (q + 1) (pos 0)) ≡ listed (λ (i : ℕ). transferAt targets i .0) (q * 900) n
-plan-quarter targets q n long e =
+pub plan-quarter : (targets : List ℤ) (q n : ℕ) → n ≡ 900
+    → quarter (getD targets q (pos 0)) (getD targets (q + 1) (pos 0)) ≡ listed (transferAt targets) (q * 900) n
+unfolding transferAt
+plan-quarter targets q n long =
     sym (quarter-is (getD targets q (pos 0)) (getD targets (q + 1) (pos 0)) n long)
-    ∙ listed-same (rampAt (getD targets q (pos 0)) (getD targets (q + 1) (pos 0))) (λ (i : ℕ). transferAt targets i .0) 1 (q * 900) n
+    ∙ listed-same (rampAt (getD targets q (pos 0)) (getD targets (q + 1) (pos 0))) (transferAt targets) 1 (q * 900) n
     (λ k l.
     let d : (q * 900 + k) / 900 ≡ q = omega arith in
     let m : (q * 900 + k) % 900 + 1 ≡ 1 + k = omega arith in
-    sym (rw (d, m) at (transfer-is targets (q * 900 + k) e)))
+    rw (d, m))
 
 -- the whole plan, without writing its 3,600 seconds out
-pub plan-is : (targets : List ℤ) (n : ℕ) → n ≡ 3600 → listed (λ (i : ℕ). transferAt targets i .0) 0 n ≡ planOf targets
+pub plan-is : (targets : List ℤ) (n : ℕ) → n ≡ 3600 → listed (transferAt targets) 0 n ≡ planOf targets
 unfolding planOf
-plan-is targets n e = ap (listed (λ (i : ℕ). transferAt targets i .0) 0) e
+plan-is targets n e = ap (listed (transferAt targets) 0) e
 
-pub plan-at : (targets : List ℤ) (i : ℕ) → i < 3600 → getD (planOf targets) i (pos 0) ≡ transferAt targets i .0
+pub plan-at : (targets : List ℤ) (i : ℕ) → i < 3600 → getD (planOf targets) i (pos 0) ≡ transferAt targets i
 unfolding planOf
-plan-at targets i h = getD-listed (λ (i : ℕ). transferAt targets i .0) 0 3600 i (pos 0) h ∙ ap (λ (k : ℕ). transferAt targets k .0) (zero-add i)
+plan-at targets i h = getD-listed (transferAt targets) 0 3600 i (pos 0) h ∙ ap (transferAt targets) (zero-add i)
 
 pub length-plan : (targets : List ℤ) → length (planOf targets) ≡ 3600
 unfolding planOf
-length-plan targets = length-listed (λ (i : ℕ). transferAt targets i .0) 0 3600
+length-plan targets = length-listed (transferAt targets) 0 3600
 
-pub plan-inside : (targets : List ℤ) → allInRange (minus 100000) (pos 100000) (planOf targets) ≡ true
-plan-inside targets =
+pub plan-inside : (targets : List ℤ) → allInRange (minus 100000) (pos 100000) targets ≡ true → allInRange (minus 100000) (pos 100000) (planOf targets) ≡ true
+plan-inside targets e =
     let n = length-plan targets in
     inside-all (minus 100000) (pos 100000) (planOf targets)
-    (λ i h. let e = plan-at targets i (omega arith) in rw e (within-in (transfer-within targets i)))
+    (λ i h. let at = plan-at targets i (omega arith) in rw at (within-in (transfer-within targets i e)))
 
 -- a plan of five targets in their range is not refused
 pub plan-granted : (targets run : List ℤ) → PlanFit targets (length run) → planLeft targets run ≡ planOf targets
@@ -189,12 +163,6 @@ unfolding planLeft planRefusal
 plan-granted targets run f = rw (eq-eqb (length targets) 5 (f .five), eq-eqb (length run) 3600 (f .long), f .inside)
 
 -- an hour whose targets are all 0 transfers nothing
-level : (n : ℕ) → plannedAt (record { 0 = pos 0 }) (record { 0 = pos 0 }) n .power ≡ record { 0 = pos 0 }
-unfolding plannedAt areTargets inRange
-level n = ap (λ (z : ℤ). record { 0 = z }) (ramp-level (pos 0) n)
-
-pub transfer-none : (targets : List ℤ) (i : ℕ) → ((q : ℕ) → getD targets q (pos 0) ≡ pos 0) → transferAt targets i ≡ record { 0 = pos 0 }
+pub transfer-none : (targets : List ℤ) (i : ℕ) → ((q : ℕ) → getD targets q (pos 0) ≡ pos 0) → transferAt targets i ≡ pos 0
 unfolding transferAt
-transfer-none targets i zeros =
-    ap₂ (λ (last target : ℤ). plannedAt (record { 0 = last }) (record { 0 = target }) (i % 900 + 1) .power) (zeros (i / 900)) (zeros (i / 900 + 1))
-    ∙ level (i % 900 + 1)
+transfer-none targets i zeros = ap₂ (λ (last target : ℤ). rampAt last target (i % 900 + 1)) (zeros (i / 900)) (zeros (i / 900 + 1)) ∙ ramp-level (pos 0) (i % 900 + 1)

@@ -10,7 +10,6 @@ use Rattle.whole.specs.Runs.{listed}
 use Rattle.whole.specs.Whole.{minus, inRange, allInRange, away}
 use Rattle.units.specs.Refusals.{wrongLength, badTransfer}
 use Rattle.units.specs.declared.Kilowatts.{Kilowatts}
-use Rattle.ramp.specs.declared.Planned.{Planned}
 
 -- second n of a quarter, with D the new target less the last one: up to second 300 the last target plus n x D / 300, rounded up if D is above 0
 -- and down if below, and from second 301 the target
@@ -36,24 +35,13 @@ rampRefusal last target places =
 unfoldable pub rampLeft : Kilowatts → Kilowatts → List ℤ → List ℤ
 rampLeft last target run = kept (rampRefusal last target (length run)) (quarter (last .0) (target .0)) run
 
--- one second of a ramp
-unfoldable pub plannedAt : Kilowatts → Kilowatts → ℕ → Planned
-plannedAt last target n =
-    pick (areTargets (last .0) (target .0))
-    (record { refusal = 0; power = record { 0 = rampAt (last .0) (target .0) n } })
-    (record { refusal = badTransfer; power = record { 0 = pos 0 } })
-
--- second i, from 0 to 3,599, of an E-dReg hour by its five targets: the one before the hour, then those of its four quarters. A target past
--- the list's end counts as 0.
-abbrev pub targetAt : List ℤ → ℕ → Kilowatts
-targetAt targets q = record { 0 = getD targets q (pos 0) }
-
-unfoldable pub transferAt : List ℤ → ℕ → Kilowatts
-transferAt targets i = plannedAt (targetAt targets (i / 900)) (targetAt targets (i / 900 + 1)) (i % 900 + 1) .power
+-- second i, from 0 to 3,599, of an E-dReg hour by its five targets, "the target before the hour and four quarter targets": the ramp of its quarter
+unfoldable pub transferAt : List ℤ → ℕ → ℤ
+transferAt targets i = rampAt (getD targets (i / 900) (pos 0)) (getD targets (i / 900 + 1) (pos 0)) (i % 900 + 1)
 
 -- an hour's 3,600 scheduled transfers, and the call that fills a run with them: it takes five targets. "Order. Ramp: 1, 10"
 unfoldable pub planOf : List ℤ → List ℤ
-planOf targets = listed (λ (i : ℕ). transferAt targets i .0) 0 3600
+planOf targets = listed (transferAt targets) 0 3600
 
 unfoldable pub planRefusal : List ℤ → ℕ → ℕ
 planRefusal targets places =

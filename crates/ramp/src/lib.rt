@@ -3,14 +3,8 @@ ghost use mathlib.Core.Path.{_≡_};
 ghost use Prim.Native.Nat.{ℕ, _≤_, _<_};
 ghost use lib.ListN.{length};
 ghost use Rattle.whole.specs.Whole.{Within};
-ghost use Rattle.ramp.specs.Ramp.{areTargets, rampAt, quarter, rampRefusal, rampLeft, plannedAt, transferAt, planOf, planRefusal, planLeft};
+ghost use Rattle.ramp.specs.Ramp.{areTargets, rampAt, quarter, rampRefusal, rampLeft, planOf, planRefusal, planLeft};
 use units::Kilowatts;
-
-// The transfer of one second, or its refusal with 0.
-pub struct Planned {
-    pub refusal: u8,
-    pub power: Kilowatts,
-}
 
 // Fills a run of 900 with a quarter's seconds 1 to 900; a refused run stays as it was.
 pub fn ramp(last: Kilowatts, target: Kilowatts, seconds: &mut [i64]) -> u8
@@ -35,36 +29,6 @@ pub fn plan(targets: &[i64], seconds: &mut [i64]) -> u8
         fill_hour(targets, seconds);
     }
     k
-}
-
-// One second of a ramp; past second 300 it is the target.
-pub fn planned_at(last: Kilowatts, target: Kilowatts, second: usize) -> Planned
-    ensures { λ r. ⌜ r ≡ plannedAt last target second ⌝ }
-{
-    let from = last.0;
-    let to = target.0;
-    if are_targets(from, to) {
-        let power = second_of(from, to, second);
-        return Planned {
-            refusal: 0,
-            power: Kilowatts(power),
-        };
-    }
-    Planned {
-        refusal: units::refusals::BAD_TRANSFER,
-        power: Kilowatts(0),
-    }
-}
-
-// The transfer of a second, counted from 0, of an hour by its targets: the one before the hour and those of its quarters.
-pub fn transfer_at(targets: &[i64], second: usize) -> Kilowatts
-    ensures { λ r. ⌜ r ≡ transferAt (now (targets .entry)) second ⌝ }
-{
-    let quarter = second / 900;
-    let last = whole::at(targets, quarter);
-    let target = whole::at(targets, quarter + 1);
-    let now = planned_at(Kilowatts(last), Kilowatts(target), second % 900 + 1);
-    now.power
 }
 
 fn are_targets(last: i64, target: i64) -> bool
@@ -138,18 +102,7 @@ fn moving(last: i64, target: i64) -> usize
     300
 }
 
-// Second n of the quarter.
-fn second_of(last: i64, target: i64, n: usize) -> i64
-    requires { ⌜ Within 100000 last × Within 100000 target ⌝ }
-    ensures { λ r. ⌜ r ≡ rampAt last target n ⌝ }
-{
-    if n <= 300 {
-        return ramping(last, target, n);
-    }
-    target
-}
-
-// Second n while the ramp lasts.
+// Second n of the quarter, while the ramp lasts.
 fn ramping(last: i64, target: i64, n: usize) -> i64
     requires { ⌜ Within 100000 last × (Within 100000 target × (n ≤ 300)) ⌝ }
     ensures { λ r. ⌜ r ≡ rampAt last target n ⌝ }

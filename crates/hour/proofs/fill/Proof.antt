@@ -39,7 +39,7 @@ returns c =
     let five : length (t .targets) ≡ 5 = search needs in
     let planned = p .plan .ensures .1 ∙ plan-granted (t .targets) (replicate 3600 (pos 0)) (record { five = five; long = refl; inside = s .pre .1 .1 }) in
     let places = length (a .scores .now) in
-    let number = run-refusal-is (a .powers .now) (a .frequencies .now) t places (s .pre .0) (s .pre .1 .0) in
+    let number = run-refusal-is (a .powers .now) (a .frequencies .now) t places (s .pre .0) (s .pre .1 .0) (s .pre .1 .1) in
     let scores = run-scores-are (a .powers .now) (a .frequencies .now) t (long (length (a .powers .now)) (length (a .frequencies .now)) places (s .pre .0) .of-powers) in (
       r .run-scores .ensures .0 ∙ ap (λ (plan : List ℤ). runRefusal (a .powers .now) (a .frequencies .now) plan (t .capacity) places) planned ∙ number,
       r .run-scores .ensures .1 ∙ ap (λ (plan : List ℤ). runLeft (a .powers .now) (a .frequencies .now) plan (t .capacity) (a .scores .now)) planned

@@ -22,7 +22,7 @@ use Rattle.ramp.proofs.fill_hour.Tie as tie
 
 abbrev Inv-loop : tie.InvT-loop
 Inv-loop targets seconds₀ q₀ seconds q =
-    (q ≤ 4) × (length seconds ≡ 3600) × (seconds ≡ filled (λ (i : ℕ). transferAt targets i .0) 0 seconds₀ (q * 900))
+    (q ≤ 4) × (length seconds ≡ 3600) × (seconds ≡ filled (transferAt targets) 0 seconds₀ (q * 900))
 
 abbrev μ-loop : tie.MeasureT-loop
 μ-loop targets seconds₀ q₀ seconds q = 4 - q
@@ -98,9 +98,9 @@ loop-again c =
     let long = fit .long in
     let a = l .q * 900 in
     let run = s .args .seconds .now in
-    let f : ℕ → ℤ = λ i. transferAt (s .args .targets .now) i .0 in
+    let f = transferAt (s .args .targets .now) in
     let k = a + 900 - a in
-    let new = (rw (toZ-ofZ (last-fits (t .before)), toZ-ofZ (target-fits t)) at (c .before .fill .ensures)) ∙ plan-quarter (s .args .targets .now) (l .q) k (sub-add a) (fit .inside) in
+    let new = (rw (toZ-ofZ (last-fits (t .before)), toZ-ofZ (target-fits t)) at (c .before .fill .ensures)) ∙ plan-quarter (s .args .targets .now) (l .q) k (sub-add a) in
     let next : a + k ≡ (l .q + 1) * 900 = omega arith in
     let put = (rw (zero-add a) at (filled-part f 0 a k run (omega arith))) ∙ ap (filled f 0 run) next in
     let as-long = ap (λ (r : List ℤ). length r) put ∙ length-filled f 0 run ((l .q + 1) * 900) (omega arith) ∙ long in
@@ -115,7 +115,7 @@ returns c =
     let s = c .before .before in
     let n : l .q * 900 ≡ 3600 = omega arith in
     let long = plan-fit _ _ (s .pre) .long in
-    l .inv .2 ∙ filled-all (λ (i : ℕ). transferAt (s .args .targets .now) i .0) 0 (s .args .seconds .now) (l .q * 900) (n ∙ sym long)
+    l .inv .2 ∙ filled-all (transferAt (s .args .targets .now)) 0 (s .args .seconds .now) (l .q * 900) (n ∙ sym long)
     ∙ plan-is (s .args .targets .now) (l .q * 900) n
 
 pub fill-hour-spec : {M : Type 1} → statement M

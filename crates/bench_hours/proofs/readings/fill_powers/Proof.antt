@@ -7,10 +7,10 @@ use Rattle.bench_hours.proofs.readings.fill_powers.Statement.{statement
 use Rattle.bench_hours.proofs.readings.fill_powers.Tie as tie
 
 abbrev Inv-loop : tie.InvT-loop
-Inv-loop powers₀ capacity targets x₀ i₀ powers x i = (i ≤ length powers₀) × (length powers ≡ length powers₀)
+Inv-loop powers₀ capacity transfers x₀ i₀ powers x i = (i ≤ length powers₀) × (length powers ≡ length powers₀)
 
 abbrev μ-loop : tie.MeasureT-loop
-μ-loop powers₀ capacity targets x₀ i₀ powers x i = length powers₀ - i
+μ-loop powers₀ capacity transfers x₀ i₀ powers x i = length powers₀ - i
 
 loop-holds : tie.Need-loop-holds Inv-loop μ-loop
 loop-holds c = search needs
