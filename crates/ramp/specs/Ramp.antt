@@ -1,5 +1,6 @@
 -- Document 01, "The transfer ramp" (document 000, formula 1), and its refusals.
-use Prim.Native.Nat.{ℕ, _+_, _/_, _%_}
+use Prim.Native.Nat.{ℕ, _+_, _/_, _%_, _<_}
+use mathlib.Core.Path.{_≡_}
 use mathlib.Core.Bool.{Bool, _&&_}
 use mathlib.Core.List.{List}
 use lib.Dec.{eqb, leb}
@@ -50,3 +51,14 @@ planRefusal targets places =
 
 unfoldable pub planLeft : List ℤ → List ℤ → List ℤ
 planLeft targets run = kept (planRefusal targets (length run)) (planOf targets) run
+
+-- ---- what an accepted call leaves, as the paper says it: "The ramp call fills a lent run of exactly 900"
+
+-- place i has second i + 1 of formula 1
+pub record Ramped (last target : ℤ) (run : List ℤ) : Type 0 where
+  pub seconds : length run ≡ 900
+  pub second : (i : ℕ) → i < 900 → getD run i (pos 0) ≡ rampAt last target (i + 1)
+
+pub record Planned (targets run : List ℤ) : Type 0 where
+  pub seconds : length run ≡ 3600
+  pub second : (i : ℕ) → i < 3600 → getD run i (pos 0) ≡ transferAt targets i
