@@ -1,5 +1,5 @@
--- An accepted hour is the paper's formula: no part of it is refused where the hour is not, so each part's answer is its plain formula. Stated over the
--- contract of `hour` as the source states it. Assumes nothing.
+-- An accepted hour is the paper's formula: no part of it is refused where the hour is not, so each part's answer is its plain formula; and an hour that
+-- fits is accepted. Stated over the contracts of `hour` and `dreg_hour` as the source states them. Assumes nothing.
 use Prim.Native.Nat.{ℕ, zero, suc, _+_, _≤_, _<_}
 use mathlib.Core.Path.{_≡_, refl, sym, ap, ap₂, _∙_, subst, subst₂}
 use mathlib.Core.Bool.{Bool, true, false, _&&_}
@@ -39,22 +39,21 @@ use Rattle.hour.specs.Accepted.{Accepted}
 use Rattle.hour.specs.declared.Terms.{Terms}
 use Rattle.hour.specs.declared.Settlement.{Settlement}
 use contract.Lifetimes.{Lfts}
-use borrow.Fn.Kinds.{Dens, endedOf}
+use mir.Val.{Val}
+use borrow.Fn.Kinds.{Dens, GoodsP, endedOf}
+use borrow.Author.Needs.{length-unmapped}
 use denote.Triple.Clauses.{AtExit}
+use denote.Laws.{Is}
 use denote.Ref.{now}
+use denote.Struct.Declared.{row}
+use denote.Struct.Laws.{owed}
+use Rattle.hour.proofs.Terms as terms
+use Rattle.hour.proofs.Terms.Laws as terms-laws
 use Rattle.hour.proofs.hour.Reads as hour-reads
 use Rattle.hour.proofs.hour.Kinds as hour-kinds
 use Rattle.hour.proofs.dreg_hour.Reads as dreg-reads
 use Rattle.hour.proofs.dreg_hour.Kinds as dreg-kinds
-use Rattle.hour.proofs.Laws.{Fit, fit, Long, long, hour-granted, scores-granted}
-
--- the answer's number is the hour's refusal
-pub refusal-is : (powers frequencies : List ℤ) (places : ℕ) (t : Terms) (thresholds factors : List ℤ)
-    → hourOf powers frequencies places t thresholds factors .refusal ≡ hourRefusal powers frequencies places t thresholds factors
-unfolding hourOf settledOf answerOf refusedOf
-refusal-is powers frequencies places t ts fs =
-    let k = hourRefusal powers frequencies places t ts fs in
-    by-test (eqb k 0) (λ (e : eqb k 0 ≡ true). rw e (sym (eqb-true k 0 e))) (λ (e : eqb k 0 ≡ false). rw e)
+use Rattle.hour.proofs.Laws.{Fit, fit, fit-none, Long, long, refusal-is, hour-granted, scores-granted}
 
 module _ (powers frequencies : List ℤ) (places : ℕ) (t : Terms) (thresholds factors : List ℤ) (f : Fit powers frequencies places t thresholds factors) (five : length (t .targets) ≡ 5) where
   lengths : Long (length powers) (length frequencies) places
@@ -172,22 +171,39 @@ module _ (powers frequencies : List ℤ) (places : ℕ) (t : Terms) (thresholds 
 
 -- ---- over the contracts: any answer of the hour call that refuses nothing, with what it leaves in the lent run
 
-accepts : (powers frequencies : List ℤ) (t : Terms) (thresholds factors : List ℤ) (run scores : List ℕ) (r : Settlement) → length (t .targets) ≡ 5
-    → r ≡ hourOf powers frequencies (length run) t thresholds factors → scores ≡ scoresLeft powers frequencies t thresholds factors run → r .refusal ≡ 0
-    → Accepted powers frequencies t thresholds factors scores r
-accepts powers frequencies t ts fs run scores r five answer left none =
-    let zero : hourRefusal powers frequencies (length run) t ts fs ≡ 0 = sym (ap (λ (x : Settlement). x .refusal) answer ∙ refusal-is powers frequencies (length run) t ts fs) ∙ none in
-    subst₂ (Accepted powers frequencies t ts fs)
-    (sym (left ∙ scores-granted powers frequencies t ts fs run zero))
-    (hour-granted powers frequencies t ts fs run zero ∙ sym answer)
-    (settled-accepted powers frequencies (length run) t ts fs (fit powers frequencies (length run) t ts fs zero) five)
+module _ (powers frequencies : List ℤ) (t : Terms) (thresholds factors : List ℤ) (run scores : List ℕ) (r : Settlement) (five : length (t .targets) ≡ 5)
+    (answer : r ≡ hourOf powers frequencies (length run) t thresholds factors) (left : scores ≡ scoresLeft powers frequencies t thresholds factors run) where
+  accepts : r .refusal ≡ 0 → Accepted powers frequencies t thresholds factors scores r
+  accepts none =
+      let zero : hourRefusal powers frequencies (length run) t thresholds factors ≡ 0 =
+      sym (ap (λ (x : Settlement). x .refusal) answer ∙ refusal-is powers frequencies (length run) t thresholds factors) ∙ none in
+      subst₂ (Accepted powers frequencies t thresholds factors)
+      (sym (left ∙ scores-granted powers frequencies t thresholds factors run zero))
+      (hour-granted powers frequencies (length run) t thresholds factors zero ∙ sym answer)
+      (settled-accepted powers frequencies (length run) t thresholds factors (fit powers frequencies (length run) t thresholds factors zero) five)
 
--- an E-dReg hour
-pub hour-accepted : (κs : Lfts 5) (a : Dens κs hour-kinds.ps) (r : Settlement) (s : AtExit (endedOf 5 hour-kinds.ps hour-kinds.r) κs)
-    → hour-reads.Post κs a r s → r .refusal ≡ 0 → length (a .1 .1 .0 .targets) ≡ 5
-    → Accepted (now (a .0)) (now (a .1 .0)) (a .1 .1 .0) (now (a .1 .1 .1 .0)) (now (a .1 .1 .1 .1 .0)) (now (s .1 .1 .1 .1 .1 .0)) r
-hour-accepted κs a r s met none five =
-    accepts (now (a .0)) (now (a .1 .0)) (a .1 .1 .0) (now (a .1 .1 .1 .0)) (now (a .1 .1 .1 .1 .0)) (now (a .1 .1 .1 .1 .1 .0)) (now (s .1 .1 .1 .1 .1 .0)) r five (met .0) (met .1) none
+  fits-accepts : Fit powers frequencies (length run) t thresholds factors → (r .refusal ≡ 0) × Accepted powers frequencies t thresholds factors scores r
+  fits-accepts f =
+      let none = ap (λ (x : Settlement). x .refusal) answer ∙ refusal-is powers frequencies (length run) t thresholds factors ∙ fit-none powers frequencies (length run) t thresholds factors f in
+      (none, accepts none)
+
+-- terms that are handed in have five targets
+pub five-targets : (t : Terms) (vs : List Val) → Is (row terms.the-type) t vs → length (t .targets) ≡ 5
+five-targets t vs g = length-unmapped ℤ (t .targets) 5 (owed terms.the-type terms-laws.the-laws t vs g .1 .1 .1 .1 .1 .0 .1 .0 .1)
+
+-- an E-dReg hour: a call of `hour`, on parameters of their types
+module _ (κs : Lfts 5) (a : Dens κs hour-kinds.ps) (good : GoodsP κs hour-kinds.ps a) (r : Settlement) (s : AtExit (endedOf 5 hour-kinds.ps hour-kinds.r) κs) (met : hour-reads.Post κs a r s) where
+  pub hour-accepted : r .refusal ≡ 0
+      → Accepted (now (a .0)) (now (a .1 .0)) (a .1 .1 .0) (now (a .1 .1 .1 .0)) (now (a .1 .1 .1 .1 .0)) (now (s .1 .1 .1 .1 .1 .0)) r
+  hour-accepted =
+      accepts (now (a .0)) (now (a .1 .0)) (a .1 .1 .0) (now (a .1 .1 .1 .0)) (now (a .1 .1 .1 .1 .0)) (now (a .1 .1 .1 .1 .1 .0)) (now (s .1 .1 .1 .1 .1 .0)) r
+      (five-targets (a .1 .1 .0) _ (good .1 .1 .0)) (met .0) (met .1)
+
+  pub hour-fit-accepted : Fit (now (a .0)) (now (a .1 .0)) (length (now (a .1 .1 .1 .1 .1 .0))) (a .1 .1 .0) (now (a .1 .1 .1 .0)) (now (a .1 .1 .1 .1 .0))
+      → (r .refusal ≡ 0) × Accepted (now (a .0)) (now (a .1 .0)) (a .1 .1 .0) (now (a .1 .1 .1 .0)) (now (a .1 .1 .1 .1 .0)) (now (s .1 .1 .1 .1 .1 .0)) r
+  hour-fit-accepted =
+      fits-accepts (now (a .0)) (now (a .1 .0)) (a .1 .1 .0) (now (a .1 .1 .1 .0)) (now (a .1 .1 .1 .1 .0)) (now (a .1 .1 .1 .1 .1 .0)) (now (s .1 .1 .1 .1 .1 .0)) r
+      (five-targets (a .1 .1 .0) _ (good .1 .1 .0)) (met .0) (met .1)
 
 -- a dReg hour is one without transfer and energy
 pub record DReg (powers frequencies : List ℤ) (capacity : Kilowatts) (scores : List ℕ) (r : Settlement) : Type 0 where
@@ -202,23 +218,36 @@ zeros-at zero q = refl
 zeros-at (suc n) zero = refl
 zeros-at (suc n) (suc q) = zeros-at n q
 
-pub dreg-hour-accepted : (κs : Lfts 5) (a : Dens κs dreg-kinds.ps) (r : Settlement) (s : AtExit (endedOf 5 dreg-kinds.ps dreg-kinds.r) κs)
-    → dreg-reads.Post κs a r s → r .refusal ≡ 0 →
-    let t = dRegTerms (a .1 .1 .0) (a .1 .1 .1 .0) (a .1 .1 .1 .1 .0) in
-    let scores = now (s .1 .1 .1 .1 .1 .1 .1 .0) in
-    Accepted (now (a .0)) (now (a .1 .0)) t (now (a .1 .1 .1 .1 .1 .0)) (now (a .1 .1 .1 .1 .1 .1 .0)) scores r
-    × DReg (now (a .0)) (now (a .1 .0)) (a .1 .1 .0) scores r
-unfolding dRegTerms
-dreg-hour-accepted κs a r s met none =
-    let powers = now (a .0) in
-    let frequencies = now (a .1 .0) in
-    let t = dRegTerms (a .1 .1 .0) (a .1 .1 .1 .0) (a .1 .1 .1 .1 .0) in
-    let e = accepts powers frequencies t (now (a .1 .1 .1 .1 .1 .0)) (now (a .1 .1 .1 .1 .1 .1 .0)) (now (a .1 .1 .1 .1 .1 .1 .1 .0)) (now (s .1 .1 .1 .1 .1 .1 .1 .0)) r refl (met .0) (met .1) none in
-    let nothing : r .energy .0 ≡ pos 0 = e .energy ∙ no-energy powers (quarters t) (pos 0) (pos 0) (λ q l. zeros-at 4 q) in (
-      e,
-      record {
-        score = λ i h. e .score i h ∙ ap (λ (z : ℤ). scoreOf (percentOutput (getD powers i (pos 0)) z (a .1 .1 .0 .0)) (upperAt (getD frequencies i (pos 0))) (lowerAt (getD frequencies i (pos 0)))) (transfer-none (replicate 5 (pos 0)) i (zeros-at 5));
-        energy = nothing;
-        amount = e .amount ∙ ap (λ (z : ℤ). r .quality .0 +ℤ z) nothing ∙ +ℤ-idr (r .quality .0);
-      },
-    )
+module _ (κs : Lfts 5) (a : Dens κs dreg-kinds.ps) (r : Settlement) (s : AtExit (endedOf 5 dreg-kinds.ps dreg-kinds.r) κs) (met : dreg-reads.Post κs a r s) where
+  pub dreg-hour-accepted : r .refusal ≡ 0 →
+      let t = dRegTerms (a .1 .1 .0) (a .1 .1 .1 .0) (a .1 .1 .1 .1 .0) in
+      let scores = now (s .1 .1 .1 .1 .1 .1 .1 .0) in
+      Accepted (now (a .0)) (now (a .1 .0)) t (now (a .1 .1 .1 .1 .1 .0)) (now (a .1 .1 .1 .1 .1 .1 .0)) scores r
+      × DReg (now (a .0)) (now (a .1 .0)) (a .1 .1 .0) scores r
+  unfolding dRegTerms
+  dreg-hour-accepted none =
+      let powers = now (a .0) in
+      let frequencies = now (a .1 .0) in
+      let t = dRegTerms (a .1 .1 .0) (a .1 .1 .1 .0) (a .1 .1 .1 .1 .0) in
+      let e = accepts powers frequencies t (now (a .1 .1 .1 .1 .1 .0)) (now (a .1 .1 .1 .1 .1 .1 .0)) (now (a .1 .1 .1 .1 .1 .1 .1 .0)) (now (s .1 .1 .1 .1 .1 .1 .1 .0)) r refl (met .0) (met .1) none in
+      let nothing : r .energy .0 ≡ pos 0 = e .energy ∙ no-energy powers (quarters t) (pos 0) (pos 0) (λ q l. zeros-at 4 q) in (
+        e,
+        record {
+          score = λ i h. e .score i h ∙ ap (λ (z : ℤ). scoreOf (percentOutput (getD powers i (pos 0)) z (a .1 .1 .0 .0)) (upperAt (getD frequencies i (pos 0))) (lowerAt (getD frequencies i (pos 0)))) (transfer-none (replicate 5 (pos 0)) i (zeros-at 5));
+          energy = nothing;
+          amount = e .amount ∙ ap (λ (z : ℤ). r .quality .0 +ℤ z) nothing ∙ +ℤ-idr (r .quality .0);
+        },
+      )
+
+  pub dreg-hour-fit-accepted :
+      let t = dRegTerms (a .1 .1 .0) (a .1 .1 .1 .0) (a .1 .1 .1 .1 .0) in
+      let scores = now (s .1 .1 .1 .1 .1 .1 .1 .0) in
+      Fit (now (a .0)) (now (a .1 .0)) (length (now (a .1 .1 .1 .1 .1 .1 .1 .0))) t (now (a .1 .1 .1 .1 .1 .0)) (now (a .1 .1 .1 .1 .1 .1 .0))
+      → (r .refusal ≡ 0)
+      × (Accepted (now (a .0)) (now (a .1 .0)) t (now (a .1 .1 .1 .1 .1 .0)) (now (a .1 .1 .1 .1 .1 .1 .0)) scores r
+      × DReg (now (a .0)) (now (a .1 .0)) (a .1 .1 .0) scores r)
+  unfolding dRegTerms
+  dreg-hour-fit-accepted f =
+      let t = dRegTerms (a .1 .1 .0) (a .1 .1 .1 .0) (a .1 .1 .1 .1 .0) in
+      let none = fits-accepts (now (a .0)) (now (a .1 .0)) t (now (a .1 .1 .1 .1 .1 .0)) (now (a .1 .1 .1 .1 .1 .1 .0)) (now (a .1 .1 .1 .1 .1 .1 .1 .0)) (now (s .1 .1 .1 .1 .1 .1 .1 .0)) r refl (met .0) (met .1) f .0 in
+      (none, dreg-hour-accepted none)

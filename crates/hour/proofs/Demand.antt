@@ -1,6 +1,6 @@
 -- DEMAND 3 with the joint call: "any run of posts, by hand or by the joint call". A joint call whose hour is accepted is a post by hand of the amount that
 -- it worked out, and one whose hour is refused leaves the ledger as it was; so a run with joint calls is a run of the ledger's own calls with
--- the same history. Over the joint call's contract as the source states it. Assumes nothing.
+-- the same history. Over any hours worked out; `joint-called` makes any answer that meets the joint call's contract such a call. Assumes nothing.
 use Prim.Native.Nat.{ℕ}
 use mathlib.Core.Path.{_≡_, refl, sym, ap, _∙_, subst}
 use mathlib.Core.Bool.{Bool, true, false}
@@ -8,10 +8,9 @@ use mathlib.Core.List.{List, [], _∷_}
 use native.Mathlib.Omega.{arith}
 use lib.Dec.{eqb}
 use lib.IntN.{ℤ, pos}
-use lib.ListN.{length}
 use contract.Lifetimes.{Lfts}
 use borrow.Fn.Kinds.{Dens, endedOf}
-use borrow.Author.Tests.{eq-eqb, ne-eqb, eqb-true, eqb-false}
+use borrow.Author.Tests.{eqb-true, eqb-false}
 use denote.Triple.Clauses.{AtExit}
 use denote.Ref.{now}
 use Rattle.whole.specs.Choice.{pick, unless, orElse}
@@ -29,10 +28,11 @@ use Rattle.month.specs.declared.Month.{Month}
 use Rattle.month.specs.declared.Booked.{Booked}
 use Rattle.month.proofs.Demand.{Answers, booked, monthLedger, refused-same, demand3}
 use Rattle.hour.specs.Hour.{hourRefusal, settledOf, answerOf, refusedOf, hourOf}
-use Rattle.hour.specs.Joint.{joined, postedOf, jointOf}
+use Rattle.hour.specs.Joint.{joined, postedOf}
 use Rattle.hour.specs.declared.Terms.{Terms}
 use Rattle.hour.specs.declared.Settlement.{Settlement}
 use Rattle.hour.specs.declared.Joined.{Joined}
+use Rattle.hour.proofs.SameNumbers.{refusedBeside, workedBy, monthGiven, joint-posts, turned-is}
 use Rattle.hour.proofs.joint.Reads as joint-reads
 use Rattle.hour.proofs.joint.Kinds as joint-kinds
 
@@ -67,54 +67,106 @@ posted-is worked m d x z w =
     go true e = ap (λ (k : ℕ). booked k (answer .month)) (z ∙ sym (eqb-true (answer .refusal) 0 e))
     go false e = ap (booked (answer .refusal)) (sym (refused-same m (Call.post d x (amountItem (worked .amount .0))) (eqb-false (answer .refusal) 0 e)))
 
--- a refused hour posts nothing
-pub turned-is : (worked : Settlement) (m : Month) (d x : ℕ) → (worked .refusal ≡ 0 → ⊥) → postedOf worked m d x .month ≡ m
-unfolding postedOf joined
-turned-is worked m d x f = rw (ne-eqb (worked .refusal) 0 f, ne-eqb (worked .refusal) 0 f)
-
 -- ---- runs with joint calls
 
--- a joint call that was made, with its answer
-pub record JointCall : Type 0 where
-  pub κs : Lfts 4
-  pub given : Dens κs joint-kinds.ps
-  pub answer : Joined
-  pub exit : AtExit (endedOf 4 joint-kinds.ps joint-kinds.r) κs
-  pub met : joint-reads.Post κs given answer exit
+-- a joint call, whatever it settles: it works an hour out, with an amount far inside the ledger's range, and answers what that hour is, posted
+pub record JointCalled (worked : Settlement) (m : Month) (d x : ℕ) (answer : Joined) : Type 0 where
+  pub inside : Within 500000000 (worked .amount .0)
+  pub posts : answer ≡ postedOf worked m d x
 
-abbrev pub monthGiven : JointCall → Month
-monthGiven j = j .given .1 .1 .1 .1 .1 .0
+-- any answer that meets `joint`'s contract is one
+pub joint-called : (κs : Lfts 4) (b : Dens κs joint-kinds.ps) (j : Joined) (e : AtExit (endedOf 4 joint-kinds.ps joint-kinds.r) κs) → joint-reads.Post κs b j e
+    → JointCalled (workedBy κs b) (monthGiven κs b) (b .1 .1 .1 .1 .1 .1 .0) (b .1 .1 .1 .1 .1 .1 .1 .0) j
+joint-called κs b j e met =
+    record {
+      inside = hour-within (now (b .0)) (now (b .1 .0)) 3600 (b .1 .1 .0) (now (b .1 .1 .1 .0)) (now (b .1 .1 .1 .1 .0));
+      posts = joint-posts κs b j e met;
+    }
 
-abbrev pub dayGiven : JointCall → ℕ
-dayGiven j = j .given .1 .1 .1 .1 .1 .1 .0
+-- what happened in a run, newest first
+pub data Event : Type 0 where
+  -- a call on the ledger and the number that it was answered: by hand, or the post of an accepted hour by the joint call
+  made : Entry Fee Item → Event
+  -- a joint call whose hour was refused: the month that was handed in, the hour's number, and the answer
+  turned : Month → ℕ → Joined → Event
 
-abbrev pub hourGiven : JointCall → ℕ
-hourGiven j = j .given .1 .1 .1 .1 .1 .1 .1 .0
+-- the ledger's history is told by the calls on it alone
+abbrev pub historyOf : List Event → List (Entry Fee Item)
+historyOf [] = []
+historyOf (made e ∷ es) = e ∷ historyOf es
+historyOf (turned m k answer ∷ es) = historyOf es
 
--- the hour that it works out
-abbrev pub worked : JointCall → Settlement
-worked j = hourOf (now (j .given .0)) (now (j .given .1 .0)) 3600 (j .given .1 .1 .0) (now (j .given .1 .1 .1 .0)) (now (j .given .1 .1 .1 .1 .0))
+-- each joint call whose hour was refused was answered the hour's number only, with the month that was handed in
+abbrev pub TurnedAway : List Event → Type 0
+TurnedAway [] = Unit {0}
+TurnedAway (made e ∷ es) = TurnedAway es
+TurnedAway (turned m k answer ∷ es) = (answer ≡ refusedBeside m k) × TurnedAway es
 
-pub data JointRun (days : ℕ) : List (Entry Fee Item) → Month → Type 0 where
+abbrev pub postOf : Settlement → ℕ → ℕ → Call Fee Item
+postOf worked d x = Call.post d x (amountItem (worked .amount .0))
+
+pub data JointRun (days : ℕ) : List Event → Month → Type 0 where
   opens : (m : Month) → monthLedger .Opens days m → JointRun days [] m
-  by-hand : (h : List (Entry Fee Item)) (m : Month) (c : Call Fee Item) (k : ℕ) (n : Month) → JointRun days h m → Answers m c k n → JointRun days (record { call = c; answer = k } ∷ h) n
+  by-hand : (es : List Event) (m : Month) (c : Call Fee Item) (k : ℕ) (n : Month) → JointRun days es m → Answers m c k n
+      → JointRun days (made (record { call = c; answer = k }) ∷ es) n
   -- the hour is accepted: a post of its amount
-  by-joint : (h : List (Entry Fee Item)) (j : JointCall) → JointRun days h (monthGiven j) → worked j .refusal ≡ 0
-      → JointRun days (record { call = Call.post (dayGiven j) (hourGiven j) (amountItem (worked j .amount .0)); answer = j .answer .hour .refusal } ∷ h) (j .answer .month)
+  by-joint : (es : List Event) (worked : Settlement) (m : Month) (d x : ℕ) (j : Joined) → JointRun days es m → JointCalled worked m d x j → worked .refusal ≡ 0
+      → JointRun days (made (record { call = postOf worked d x; answer = j .hour .refusal }) ∷ es) (j .month)
   -- the hour is refused: no post
-  turned : (h : List (Entry Fee Item)) (j : JointCall) → JointRun days h (monthGiven j) → (worked j .refusal ≡ 0 → ⊥) → JointRun days h (j .answer .month)
+  by-refused : (es : List Event) (worked : Settlement) (m : Month) (d x : ℕ) (j : Joined) → JointRun days es m → JointCalled worked m d x j → (worked .refusal ≡ 0 → ⊥)
+      → JointRun days (turned m (worked .refusal) j ∷ es) (j .month)
 
-pub by-posts : (days : ℕ) (h : List (Entry Fee Item)) (m : Month) → JointRun days h m → Run monthLedger days h m
-unfolding jointOf
-by-posts days h m (opens _ o) = opened m o
-by-posts days h n (by-hand g m c k _ run a) = called g m c k n (by-posts days g m run) a
-by-posts days h n (by-joint g j run z) =
-    called g (monthGiven j) (Call.post (dayGiven j) (hourGiven j) (amountItem (worked j .amount .0))) (j .answer .hour .refusal) (j .answer .month) (by-posts days g (monthGiven j) run)
-    (ap booking (j .met) ∙ posted-is (worked j) (monthGiven j) (dayGiven j) (hourGiven j) z
-    (hour-within (now (j .given .0)) (now (j .given .1 .0)) 3600 (j .given .1 .1 .0) (now (j .given .1 .1 .1 .0)) (now (j .given .1 .1 .1 .1 .0))))
-by-posts days h n (turned _ j run f) =
-    subst (Run monthLedger days h) (sym (ap (λ (x : Joined). x .month) (j .met) ∙ turned-is (worked j) (monthGiven j) (dayGiven j) (hourGiven j) f)) (by-posts days h (monthGiven j) run)
+pub by-posts : (days : ℕ) (es : List Event) (m : Month) → JointRun days es m → Run monthLedger days (historyOf es) m
+by-posts days _ m (opens _ o) = opened m o
+by-posts days _ n (by-hand es m c k _ run a) = called (historyOf es) m c k n (by-posts days es m run) a
+by-posts days _ _ (by-joint es worked m d x j run c z) =
+    called (historyOf es) m (postOf worked d x) (j .hour .refusal) (j .month) (by-posts days es m run) (ap booking (c .posts) ∙ posted-is worked m d x z (c .inside))
+by-posts days _ _ (by-refused es worked m d x j run c f) =
+    subst (Run monthLedger days (historyOf es)) (sym (ap (λ (y : Joined). y .month) (c .posts ∙ turned-is worked m d x f))) (by-posts days es m run)
+
+turned-away : (days : ℕ) (es : List Event) (m : Month) → JointRun days es m → TurnedAway es
+turned-away days _ m (opens _ o) = tt
+turned-away days _ n (by-hand es m c k _ run a) = turned-away days es m run
+turned-away days _ _ (by-joint es worked m d x j run c z) = turned-away days es m run
+turned-away days _ _ (by-refused es worked m d x j run c f) = (c .posts ∙ turned-is worked m d x f, turned-away days es m run)
 
 -- the demand, over runs that mix the joint call with calls by hand
-pub joint-demand3 : (days : ℕ) (h : List (Entry Fee Item)) (m : Month) → JointRun days h m → Demand3 monthLedger days h m
-joint-demand3 days h m run = demand3 days h m (by-posts days h m run)
+pub joint-demand3 : (days : ℕ) (es : List Event) (m : Month) → JointRun days es m → Demand3 monthLedger days (historyOf es) m × TurnedAway es
+joint-demand3 days es m run = (demand3 days (historyOf es) m (by-posts days es m run), turned-away days es m run)
+
+-- ---- there are such runs: from every month that opens, for every list of hours worked out, each with the day and the hour to post it on
+
+pub record Asked : Type 0 where
+  pub worked : Settlement
+  pub day : ℕ
+  pub hour : ℕ
+  pub inside : Within 500000000 (worked .amount .0)
+
+abbrev pub answerTo : Asked → Month → Joined
+answerTo a m = postedOf (a .worked) m (a .day) (a .hour)
+
+abbrev pub eventOf : Asked → Month → Event
+eventOf a m =
+    pick (eqb (a .worked .refusal) 0)
+    (made (record { call = postOf (a .worked) (a .day) (a .hour); answer = answerTo a m .hour .refusal }))
+    (turned m (a .worked .refusal) (answerTo a m))
+
+-- each is given the month that the one before handed back, newest first
+abbrev pub monthAfter : Month → List Asked → Month
+monthAfter m [] = m
+monthAfter m (a ∷ before) = answerTo a (monthAfter m before) .month
+
+abbrev pub eventsAfter : Month → List Asked → List Event
+eventsAfter m [] = []
+eventsAfter m (a ∷ before) = eventOf a (monthAfter m before) ∷ eventsAfter m before
+
+pub joint-able : (days : ℕ) (m : Month) → monthLedger .Opens days m → (asked : List Asked) → JointRun days (eventsAfter m asked) (monthAfter m asked)
+joint-able days m o [] = opens m o
+joint-able days m o (a ∷ before) =
+    let w = a .worked in
+    let n = monthAfter m before in
+    let run = joint-able days m o before in
+    let c : JointCalled w n (a .day) (a .hour) (answerTo a n) = record { inside = a .inside; posts = refl } in
+    by-test (eqb (w .refusal) 0)
+    (λ (t : eqb (w .refusal) 0 ≡ true). rw t (by-joint (eventsAfter m before) w n (a .day) (a .hour) (answerTo a n) run c (eqb-true (w .refusal) 0 t)))
+    (λ (t : eqb (w .refusal) 0 ≡ false). rw t (by-refused (eventsAfter m before) w n (a .day) (a .hour) (answerTo a n) run c (eqb-false (w .refusal) 0 t)))

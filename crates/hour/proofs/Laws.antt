@@ -1,7 +1,7 @@
--- What a refusal that is 0 says of an hour's inputs, and what the refusal decides of the answer and of the lent run. Assumes nothing.
+-- An hour's inputs fit just where its refusal is 0; and what the refusal decides of the answer and of the lent run. By the chain's tests. Assumes nothing.
 use Prim.Native.Nat.{ℕ, _+_, _<_}
-use mathlib.Core.Path.{_≡_, sym, ap, _∙_}
-use mathlib.Core.Bool.{true, _&&_}
+use mathlib.Core.Path.{_≡_, refl, sym, ap, _∙_}
+use mathlib.Core.Bool.{Bool, true, false, _&&_}
 use mathlib.Core.List.{List}
 use native.Mathlib.Nat.{zero-add}
 use native.Mathlib.Omega.{arith}
@@ -14,10 +14,10 @@ use borrow.Author.Tests.{eqb-true, eq-eqb, ne-eqb}
 use Rattle.whole.specs.Choice.{unless, orElse}
 use Rattle.whole.specs.Whole.{minus, allInRange}
 use Rattle.whole.specs.Runs.{listed}
-use Rattle.whole.proofs.Choice.{and-both, passed, both-passed, unless-then, or-else-then, kept-new, kept-old}
+use Rattle.whole.proofs.Choice.{and-both, by-test, passed, both-passed, or-rest, unless-then, or-else-then, kept-new, kept-old}
 use Rattle.whole.proofs.Runs.{listed-same}
 use Rattle.whole.proofs.Signed.{within-fits}
-use Rattle.units.specs.Refusals.{wrongLength, badCapacity, badMoney, badReading}
+use Rattle.units.specs.Refusals.{wrongLength, badCapacity, badMoney, badTransfer, badReading}
 use Rattle.units.specs.declared.Dollars.{Dollars}
 use Rattle.ramp.specs.Ramp.{planOf}
 use Rattle.ramp.proofs.Laws.{plan-at, length-plan, plan-inside}
@@ -26,7 +26,7 @@ use Rattle.score.specs.Score.{isCapacity, secondScore}
 use Rattle.score.specs.Run.{runScoreAt, runScores, runRefusal}
 use Rattle.fees.specs.Fees.{qualityAnswer, energyAnswer}
 use Rattle.fees.proofs.Laws.{amount-within}
-use Rattle.hour.specs.Hour.{lengthsFit, pricesFit, readingsFit, hourRefusal, termsRefusal, scoreAt, scoresOf, scoresLeft, settledOf, refusedOf, hourOf}
+use Rattle.hour.specs.Hour.{lengthsFit, pricesFit, readingsFit, hourRefusal, termsRefusal, scoreAt, scoresOf, scoresLeft, answerOf, settledOf, refusedOf, hourOf}
 use Rattle.hour.specs.declared.Terms.{Terms}
 
 -- three runs of 3,600
@@ -65,6 +65,17 @@ fit powers frequencies places t ts fs e =
     let f = passed (allInRange (minus 100000) (pos 100000) (t .targets)) 9 _ (d .1) in
     let g = passed (readingsFit powers frequencies) 3 0 (f .1) in
     record { lengths = a .0; capacity = b .0; prices = c .0; bands = d .0; targets = f .0; readings = g .0 }
+
+-- and an hour that fits is not refused
+lets : {b : Bool} {rest : ℕ} (k : ℕ) → b ≡ true → rest ≡ 0 → unless b k rest ≡ 0
+lets k p q = rw (p, q)
+
+pub fit-none : (powers frequencies : List ℤ) (places : ℕ) (t : Terms) (thresholds factors : List ℤ)
+    → Fit powers frequencies places t thresholds factors → hourRefusal powers frequencies places t thresholds factors ≡ 0
+unfolding hourRefusal
+fit-none powers frequencies places t ts fs f =
+    let transfers = lets badTransfer (f .targets) (lets badReading (f .readings) refl) in
+    lets wrongLength (f .lengths) (lets badCapacity (f .capacity) (lets badMoney (f .prices) (or-rest _ (f .bands) ∙ transfers)))
 
 -- all but the readings
 pub record TermsFit (powers frequencies places : ℕ) (t : Terms) : Type 0 where
@@ -131,22 +142,31 @@ amount-fits capacity performance factor powers targets discharge charge =
 
 -- ---- what the refusal decides
 
+module _ (powers frequencies : List ℤ) (places : ℕ) (t : Terms) (thresholds factors : List ℤ) where
+  abbrev of-places : ℕ
+  of-places = hourRefusal powers frequencies places t thresholds factors
+
+  pub hour-granted : of-places ≡ 0 → settledOf powers t thresholds factors (scoresOf powers frequencies t) ≡ hourOf powers frequencies places t thresholds factors
+  unfolding hourOf
+  hour-granted e = rw e
+
+  pub hour-refused : (of-places ≡ 0 → ⊥) → refusedOf of-places ≡ hourOf powers frequencies places t thresholds factors
+  unfolding hourOf
+  hour-refused h = rw (ne-eqb of-places 0 h)
+
+  -- the answer's number is the hour's refusal
+  pub refusal-is : hourOf powers frequencies places t thresholds factors .refusal ≡ of-places
+  unfolding hourOf settledOf answerOf refusedOf
+  refusal-is = by-test (eqb of-places 0) (λ (e : eqb of-places 0 ≡ true). rw e (sym (eqb-true of-places 0 e))) (λ (e : eqb of-places 0 ≡ false). rw e)
+
 module _ (powers frequencies : List ℤ) (t : Terms) (thresholds factors : List ℤ) (run : List ℕ) where
   abbrev number : ℕ
   number = hourRefusal powers frequencies (length run) t thresholds factors
 
-  pub hour-granted : number ≡ 0 → settledOf powers t thresholds factors (scoresOf powers frequencies t) ≡ hourOf powers frequencies (length run) t thresholds factors
-  unfolding hourOf
-  hour-granted e = rw e
-
-  pub hour-refused : (number ≡ 0 → ⊥) → refusedOf number ≡ hourOf powers frequencies (length run) t thresholds factors
-  unfolding hourOf
-  hour-refused h = rw (ne-eqb number 0 h)
-
   pub scores-granted : number ≡ 0 → scoresLeft powers frequencies t thresholds factors run ≡ scoresOf powers frequencies t
   unfolding scoresLeft
-  scores-granted e = kept-new _ run e
+  scores-granted e = kept-new _ _ e
 
   pub scores-refused : (number ≡ 0 → ⊥) → scoresLeft powers frequencies t thresholds factors run ≡ run
   unfolding scoresLeft
-  scores-refused h = kept-old _ run h
+  scores-refused h = kept-old _ _ h

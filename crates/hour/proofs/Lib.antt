@@ -1,5 +1,7 @@
 -- What belongs to no one function.
 pub mod Laws
 pub mod Accepted
+pub mod SameNumbers
 mod Determined
+mod Refusals
 pub mod Demand

@@ -45,7 +45,7 @@ returns c =
     let first : number s ≡ of-terms s = number-is s ∙ or-first (of-readings s) (λ z. t .if1 .taken (k ∙ z)) in
     let h : (number s ≡ 0 → ⊥) = λ z. t .if1 .taken (k ∙ sym first ∙ z) in (
       c .refused .ensures ∙ ap refusedOf (k ∙ sym first)
-          ∙ hour-refused (a .powers .now) (a .frequencies .now) (a .terms) (a .thresholds .now) (a .factors .now) (a .scores .now) h,
+          ∙ hour-refused (a .powers .now) (a .frequencies .now) (length (a .scores .now)) (a .terms) (a .thresholds .now) (a .factors .now) h,
       sym (scores-refused (a .powers .now) (a .frequencies .now) (a .terms) (a .thresholds .now) (a .factors .now) (a .scores .now) h),
     )
 
@@ -81,7 +81,7 @@ returns-2 c =
     let h : (number s ≡ 0 → ⊥) = λ z. t .if2 .taken (n ∙ sym (readings-left e) ∙ z) in
     let still : f .fill .last .1 .1 .1 .0 ≡ a .scores .now = f .fill .ensures .1 ∙ kept-old _ _ (λ z. t .if2 .taken (n ∙ z)) in (
       c .refused2 .ensures ∙ ap refusedOf (n ∙ sym (readings-left e))
-          ∙ hour-refused (a .powers .now) (a .frequencies .now) (a .terms) (a .thresholds .now) (a .factors .now) (a .scores .now) h,
+          ∙ hour-refused (a .powers .now) (a .frequencies .now) (length (a .scores .now)) (a .terms) (a .thresholds .now) (a .factors .now) h,
       still ∙ sym (scores-refused (a .powers .now) (a .frequencies .now) (a .terms) (a .thresholds .now) (a .factors .now) (a .scores .now) h),
     )
 
@@ -103,7 +103,7 @@ returns-3 c =
     let z : number s ≡ 0 = readings-left e ∙ none in
     let scores : f .fill .last .1 .1 .1 .0 ≡ scoresOf (a .powers .now) (a .frequencies .now) (a .terms) = f .fill .ensures .1 ∙ kept-new _ _ none in (
       c .settled .ensures ∙ ap (λ (l : List ℕ). settledOf (a .powers .now) (a .terms) (a .thresholds .now) (a .factors .now) l) scores
-          ∙ hour-granted (a .powers .now) (a .frequencies .now) (a .terms) (a .thresholds .now) (a .factors .now) (a .scores .now) z,
+          ∙ hour-granted (a .powers .now) (a .frequencies .now) (length (a .scores .now)) (a .terms) (a .thresholds .now) (a .factors .now) z,
       scores ∙ sym (scores-granted (a .powers .now) (a .frequencies .now) (a .terms) (a .thresholds .now) (a .factors .now) (a .scores .now) z),
     )
 
