@@ -9,7 +9,7 @@ use lib.Dec.{eqb, leb}
 use lib.IntN.{ℤ, pos}
 use lib.ListN.{length, getD}
 use lib.Signed.{leZ}
-use borrow.Author.Tests.{eqb-true, leb-true, leb-false, le-leb}
+use borrow.Author.Tests.{eqb-true, eq-eqb, leb-true, leb-false, le-leb}
 use Rattle.whole.specs.Choice.{pick}
 use Rattle.whole.specs.Whole.{minus, Within, inRange, allInRange}
 use Rattle.whole.proofs.Choice.{clash, and-both, by-test, passed, both-passed}
@@ -47,6 +47,12 @@ bands-fit ts fs e =
       falling = b .1;
       ending = a .1;
     }
+
+pub bands-pass : {thresholds factors : List ℤ} → BandsFit thresholds factors → bandsRefusal thresholds factors ≡ 0
+unfolding bandsRefusal bandsFit
+bands-pass {thresholds} {factors} f =
+    let n = length thresholds in
+    rw (le-leb 1 n (f .some), le-leb n 16 (f .few), eq-eqb (length factors) n (f .even), f .percent, f .tenths, f .falling, f .ending)
 
 pub record LookupFits (thresholds factors : List ℤ) (rate : ℕ) : Type 0 where
   pub bands : BandsFit thresholds factors

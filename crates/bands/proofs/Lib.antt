@@ -4,3 +4,5 @@ pub mod Laws
 mod Gathering
 mod Lent
 mod Determined
+mod Refused
+pub mod Accepted

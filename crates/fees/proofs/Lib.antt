@@ -3,3 +3,5 @@ mod Bounds
 pub mod Laws
 pub mod LossLaws
 mod Determined
+mod RefusedKeeps
+pub mod Accepted

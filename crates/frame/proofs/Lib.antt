@@ -8,3 +8,4 @@ pub mod RoundTrip
 mod Samples
 mod Contracts
 mod Determined
+mod Refused

@@ -1,10 +1,8 @@
 -- `frame::write_frame` meets its contract: a refused run stays, and one that is filled is the entry's line. Assumes nothing.
-use mathlib.Core.Path.{_≡_, sym, _∙_}
+use mathlib.Core.Path.{sym, _∙_}
 use native.Mathlib.Omega.{arith}
-use lib.ListN.{length}
 use borrow.Author.Needs.{needs}
 use borrow.Author.Tests.{not-true, not-false}
-use Rattle.frame.specs.Frame.{writeRefusal}
 use Rattle.frame.proofs.Frames.{write-refused, write-right, length-refuses, form-refuses, takes}
 use Rattle.frame.proofs.write_frame.Statement.{statement}
 use Rattle.frame.proofs.write_frame.Tie as tie

@@ -1,5 +1,5 @@
 -- `frame::digit::decode` meets its contract, by those of `all_digits` and `put_values`. Assumes nothing.
-use mathlib.Core.Path.{_≡_, sym, _∙_}
+use mathlib.Core.Path.{sym, _∙_}
 use borrow.Author.Needs.{needs}
 use borrow.Author.Tests.{not-true, not-false}
 use Rattle.whole.proofs.Choice.{clash}

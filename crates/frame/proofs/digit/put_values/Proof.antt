@@ -5,8 +5,8 @@ use native.Mathlib.Omega.{arith}
 use mathlib.Core.Path.{_≡_, refl}
 use mathlib.Core.Bool.{true}
 use mathlib.Core.List.{_++_}
-use lib.ListN.{length, getD, take, drop, length-set}
-use Rattle.frame.specs.Digits.{isDigit, allDigits, bytesOf}
+use lib.ListN.{length, take, drop, length-set}
+use Rattle.frame.specs.Digits.{allDigits, bytesOf}
 use Rattle.frame.proofs.Digits.{two-next, decode-next, decode-done}
 use Rattle.frame.proofs.digit.put_values.Statement.{statement}
 use Rattle.frame.proofs.digit.put_values.Tie as tie
