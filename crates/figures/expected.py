@@ -3,6 +3,7 @@
 
 It shares nothing with the Rattle code. `python3 crates/figures/expected.py | cmp - crates/figures/stdout` holds the stored output to it."""
 from fractions import Fraction
+from functools import cache
 
 
 def line(*words):
@@ -19,6 +20,7 @@ def nearest(q):
 CORNERS = [(59750, 100, 100), (59860, 52, 52), (59980, 9, -9), (60020, 9, -9), (60140, -52, -52), (60250, -100, -100)]
 
 
+@cache
 def bound(f, which):
     if f <= CORNERS[0][0]:
         return CORNERS[0][which]
@@ -271,6 +273,7 @@ ramp("901 places", 0, 5000, [7] * 901)
 # ---- a second's score, an hour's rate
 
 
+@cache
 def score(power, transfer, capacity, f):
     output = nearest(Fraction(100 * (power - transfer), capacity))
     _, upper, lower = curve(f)
