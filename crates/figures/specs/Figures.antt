@@ -38,9 +38,11 @@ scores = 100 ∷ 90 ∷ 50 ∷ 90 ∷ 90 ∷ 70 ∷ 95 ∷ 100 ∷ 100 ∷ 60 �
 abbrev pub rolled : List ℕ
 rolled = 100 ∷ 100 ∷ 100 ∷ 100 ∷ 90 ∷ 90 ∷ 95 ∷ 100 ∷ 100 ∷ 100 ∷ 100 ∷ []
 
+-- what is computed beside what is printed; a number that stands alone has -1 beside it, which is no rate, so that it cannot agree
 abbrev pub side : List ℕ → List ℕ → List Figure
-side [] ys = []
-side (x ∷ xs) [] = figure (pos x) (minus 1) ∷ []
+side [] [] = []
+side [] (y ∷ ys) = figure (minus 1) (pos y) ∷ side [] ys
+side (x ∷ xs) [] = figure (pos x) (minus 1) ∷ side xs []
 side (x ∷ xs) (y ∷ ys) = figure (pos x) (pos y) ∷ side xs ys
 
 -- "means -3.0, -2.9, 0.1, -3.2 MW"
