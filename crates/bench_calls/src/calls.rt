@@ -42,7 +42,7 @@ fn calls_in(
     draw::with_amounts(sum, amounts)
 }
 
-pub fn in_place(days: u8, closed: bool, ordered: bool, calls: u64) -> u64 {
+pub(crate) fn in_place(days: u8, closed: bool, ordered: bool, calls: u64) -> u64 {
     let head = Head {
         days: days,
         closed: closed,
@@ -74,7 +74,7 @@ fn opened(days: u8, closed: bool) -> Month {
     m
 }
 
-pub fn by_value(days: u8, closed: bool, calls: u64) -> u64 {
+pub(crate) fn by_value(days: u8, closed: bool, calls: u64) -> u64 {
     let mut m = opened(days, closed);
     let mut x = 1;
     let mut sum = 0;

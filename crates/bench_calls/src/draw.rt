@@ -10,11 +10,11 @@ pub struct Call {
     pub amount: i64,
 }
 
-pub fn next(x: u64) -> u64 {
+pub(crate) fn next(x: u64) -> u64 {
     (x % MODULUS * 1_664_525 + 1_013_904_223) % MODULUS
 }
 
-pub fn by_chance(x: u64) -> Call {
+pub(crate) fn by_chance(x: u64) -> Call {
     Call {
         kind: (x / 16_777_216 % 8) as u8,
         day: (x / 134_217_728 % 32) as u8,
@@ -25,7 +25,7 @@ pub fn by_chance(x: u64) -> Call {
 
 // The calls in order: 16 hours of each day are posted, posted again, replaced and withdrawn. Shifts and masks find a call, so that a turn of
 // the loop is little else than the call.
-pub fn in_order(i: u64) -> Call {
+pub(crate) fn in_order(i: u64) -> Call {
     Call {
         kind: (i / 512 % 4 * 2) as u8,
         day: (i / 16 % 32) as u8,
@@ -35,12 +35,12 @@ pub fn in_order(i: u64) -> Call {
 }
 
 // The sum with one number more; the order of the numbers counts.
-pub fn mixed(sum: u64, number: u64) -> u64 {
+pub(crate) fn mixed(sum: u64, number: u64) -> u64 {
     (sum % MODULUS * 31 + number % MODULUS) % MODULUS
 }
 
 // The sum with every place's amount.
-pub fn with_amounts(sum: u64, amounts: &[i64]) -> u64 {
+pub(crate) fn with_amounts(sum: u64, amounts: &[i64]) -> u64 {
     let mut s = sum;
     let mut p = 0;
     while p < amounts.len() {

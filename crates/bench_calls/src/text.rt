@@ -19,7 +19,7 @@ fn with_space(spaces: usize, b: u8) -> usize {
 }
 
 // The number that stands after that many spaces.
-pub fn count(input: &[u8], after: usize) -> u64 {
+pub(crate) fn count(input: &[u8], after: usize) -> u64 {
     let mut n: u64 = 0;
     let mut spaces: usize = 0;
     let mut i = 0;
@@ -35,11 +35,11 @@ pub fn count(input: &[u8], after: usize) -> u64 {
 }
 
 // A month's days: 28 to 31 stay as they are.
-pub fn days(n: u64) -> u8 {
+pub(crate) fn days(n: u64) -> u8 {
     (28 + n % 4) as u8
 }
 
-pub fn line(way: &[u8], calls: u64, sum: u64) {
+pub(crate) fn line(way: &[u8], calls: u64, sum: u64) {
     io::write_all(1, way);
     io::write_all(1, b" ");
     io::print_decimal(1, calls);

@@ -6,12 +6,12 @@ use units::Dollars;
 
 pub const MODULUS: u64 = 4_294_967_296;
 
-pub fn next(x: u64) -> u64 {
+pub(crate) fn next(x: u64) -> u64 {
     (x % MODULUS * 1_664_525 + 1_013_904_223) % MODULUS
 }
 
 // The sum with one number more; the order of the numbers counts.
-pub fn mixed(sum: u64, number: u64) -> u64 {
+fn mixed(sum: u64, number: u64) -> u64 {
     (sum % MODULUS * 31 + number % MODULUS) % MODULUS
 }
 
@@ -20,7 +20,7 @@ fn amount(x: u64) -> i64 {
 }
 
 // A post, a replace, a withdraw or, one time in sixteen, a kind that is none: in form but for those.
-pub fn entry(x: u64) -> Entry {
+pub(crate) fn entry(x: u64) -> Entry {
     let k = x / 16_777_216 % 16;
     let day = (x / 134_217_728 % 32) as u8;
     let hour = (x / 65_536 % 256 * 25 / 256) as u8;
@@ -76,7 +76,7 @@ fn damaged(line: [u8; 24], x: u64) -> [u8; 24] {
 }
 
 // A line; an entry that the writer refuses leaves 24 zeros.
-pub fn line(x: u64) -> [u8; 24] {
+pub(crate) fn line(x: u64) -> [u8; 24] {
     let mut run = [b'0'; 24];
     frame::write_frame(entry(x), &mut run);
     damaged(run, x)
@@ -90,7 +90,7 @@ fn with_entry(sum: u64, entry: Entry) -> u64 {
 }
 
 // The sum with what a line reads as.
-pub fn with_reading(sum: u64, got: Reading) -> u64 {
+pub(crate) fn with_reading(sum: u64, got: Reading) -> u64 {
     match got {
         Reading::Frame(entry) => with_entry(sum, entry),
         Reading::Refused(n) => mixed(sum, n as u64),
@@ -102,7 +102,7 @@ fn wide(b: u8) -> u64 {
 }
 
 // The sum with the writer's answer, the last digit of its line, and one that goes round.
-pub fn with_line(sum: u64, refusal: u8, line: &[u8; 24], i: u64) -> u64 {
+pub(crate) fn with_line(sum: u64, refusal: u8, line: &[u8; 24], i: u64) -> u64 {
     let at = (i % 24) as usize;
     mixed(
         mixed(mixed(sum, refusal as u64), wide(line[at])),

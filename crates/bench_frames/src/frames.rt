@@ -7,7 +7,7 @@ use crate::draw;
 pub const LINES: u64 = 1_024;
 
 // Lines by chance, one after the other.
-pub fn make_lines(lines: &mut [u8]) {
+pub(crate) fn make_lines(lines: &mut [u8]) {
     let mut x = 1;
     let mut at = 0;
     let mut i = 0;
@@ -20,7 +20,7 @@ pub fn make_lines(lines: &mut [u8]) {
 }
 
 // Reads the lines in order, over and over.
-pub fn read(lines: &[u8], calls: u64) -> u64
+pub(crate) fn read(lines: &[u8], calls: u64) -> u64
     requires { ⌜ length (now lines) ≡ 24576 ⌝ }
 {
     let mut sum = 0;
@@ -35,7 +35,7 @@ pub fn read(lines: &[u8], calls: u64) -> u64
 }
 
 // Writes entries by chance.
-pub fn write(calls: u64) -> u64 {
+pub(crate) fn write(calls: u64) -> u64 {
     let mut line = [b'0'; 24];
     let mut x = 1;
     let mut sum = 0;

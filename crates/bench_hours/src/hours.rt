@@ -112,11 +112,11 @@ fn run(shifting: bool, capacity: u64, targets: [i64; 5], count: u64) -> u64 {
 }
 
 // No transfer.
-pub fn dreg(capacity: u64, count: u64) -> u64 {
+pub(crate) fn dreg(capacity: u64, count: u64) -> u64 {
     run(false, capacity, [0; 5], count)
 }
 
 // Every quarter ramps, up and down.
-pub fn edreg(capacity: u64, count: u64) -> u64 {
+pub(crate) fn edreg(capacity: u64, count: u64) -> u64 {
     run(true, capacity, [2_000, -3_000, 5_000, -8_000, 4_000], count)
 }

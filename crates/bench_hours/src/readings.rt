@@ -3,7 +3,7 @@ ghost use Rattle.whole.specs.Whole.{Within};
 
 pub const MODULUS: u64 = 4_294_967_296;
 
-pub fn next(x: u64) -> u64 {
+pub(crate) fn next(x: u64) -> u64 {
     (x % MODULUS * 1_664_525 + 1_013_904_223) % MODULUS
 }
 
@@ -69,12 +69,12 @@ fn transfer_of(transfers: &[i64], second: usize) -> i64
 }
 
 // The power of a second, drawn by x.
-pub fn drawn(second: usize, x: u64, capacity: u64, transfers: &[i64]) -> i64 {
+pub(crate) fn drawn(second: usize, x: u64, capacity: u64, transfers: &[i64]) -> i64 {
     let transfer = transfer_of(transfers, second);
     power(wave(second, x), x, capacity, transfer)
 }
 
-pub fn fill_powers(powers: &mut [i64], capacity: u64, transfers: &[i64]) {
+pub(crate) fn fill_powers(powers: &mut [i64], capacity: u64, transfers: &[i64]) {
     let mut x = 1;
     let mut i = 0;
     while i < powers.len() {
@@ -85,7 +85,7 @@ pub fn fill_powers(powers: &mut [i64], capacity: u64, transfers: &[i64]) {
     }
 }
 
-pub fn fill_frequencies(frequencies: &mut [i64]) {
+pub(crate) fn fill_frequencies(frequencies: &mut [i64]) {
     let mut x = 1;
     let mut i = 0;
     while i < frequencies.len() {

@@ -3,7 +3,7 @@ use crate::readings;
 use hour::Settlement;
 use units::Dollars;
 
-pub fn mixed(sum: u64, number: u64) -> u64 {
+fn mixed(sum: u64, number: u64) -> u64 {
     (sum % readings::MODULUS * 31 + number % readings::MODULUS) % readings::MODULUS
 }
 
@@ -16,7 +16,7 @@ fn with_dollars(sum: u64, dollars: Dollars) -> u64 {
 }
 
 // The sum with every number of a settlement.
-pub fn with_settlement(sum: u64, s: Settlement) -> u64 {
+pub(crate) fn with_settlement(sum: u64, s: Settlement) -> u64 {
     let mut m = mixed(mixed(sum, s.refusal as u64), s.rate as u64);
     m = with_number(m, s.factor);
     m = with_dollars(m, s.capacity);
@@ -31,7 +31,7 @@ fn with_score(sum: u64, score: u8) -> u64 {
 }
 
 // The sum with every score.
-pub fn with_scores(sum: u64, scores: &[u8]) -> u64 {
+pub(crate) fn with_scores(sum: u64, scores: &[u8]) -> u64 {
     let mut m = sum;
     let mut i = 0;
     while i < scores.len() {

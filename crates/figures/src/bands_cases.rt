@@ -3,7 +3,7 @@ use crate::text;
 use bands::Factored;
 
 // Document 01's list S.
-pub fn list_s(rate: u8) -> Factored {
+pub(crate) fn list_s(rate: u8) -> Factored {
     let thresholds = [95i64, 94, 93, 92, 91, 70, 0];
     let factors = [10i64, 8, 6, 4, 2, 0, -10];
     bands::factor(&thresholds, &factors, rate)
@@ -18,7 +18,7 @@ fn show(rate: u8) {
     text::end();
 }
 
-pub fn rates() {
+pub(crate) fn rates() {
     text::heading(b"list S");
     show(100);
     show(96);
@@ -77,7 +77,7 @@ fn short_lists() {
 }
 
 // Sixteen records pass; none and seventeen do not.
-pub fn lists() {
+pub(crate) fn lists() {
     text::heading(b"lists at and past the limits");
     short_lists();
     let falling = [

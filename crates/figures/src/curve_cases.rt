@@ -39,14 +39,14 @@ fn last_steps() {
     show(b"F18", 59_500);
 }
 
-pub fn step_test() {
+pub(crate) fn step_test() {
     text::heading(b"document 002, table 1: the step test");
     first_steps();
     last_steps();
 }
 
 // Document 01's worked figures, the two ties among them.
-pub fn corners() {
+pub(crate) fn corners() {
     text::heading(b"document 01: the curve");
     show(b"worked", 59_900);
     show(b"tie", 59_920);
@@ -55,7 +55,7 @@ pub fn corners() {
     show(b"worked", 59_750);
 }
 
-pub fn limits() {
+pub(crate) fn limits() {
     text::heading(b"frequencies at and past the limits");
     show(b"least", 55_000);
     show(b"most", 65_000);
@@ -77,7 +77,7 @@ fn convert(figure: i64) {
     text::end();
 }
 
-pub fn conversion() {
+pub(crate) fn conversion() {
     text::heading(b"megawatts to kilowatts");
     convert(5);
     convert(-8);

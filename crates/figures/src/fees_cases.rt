@@ -21,7 +21,7 @@ fn fee(price: i64, capacity: i64) {
 }
 
 // Document 001, example 1; 443 dollars for 10 MW; a half; the limits.
-pub fn of_capacity() {
+pub(crate) fn of_capacity() {
     text::heading(b"document 001, example 1: capacity and performance fees");
     fee(32_000, 10_000);
     fee(35_000, 10_000);
@@ -48,7 +48,7 @@ fn quality(capacity: i64, performance: i64, factor: i64) {
     answer(fees::quality_part(Dollars(capacity), Dollars(performance), factor));
 }
 
-pub fn quality_parts() {
+pub(crate) fn quality_parts() {
     text::heading(b"quality parts");
     quality(4_350, 3_500, 8);
     quality(4_400, 3_500, -10);
@@ -84,7 +84,7 @@ fn energy(label: &[u8], powers: &[i64], target: i64, discharge: i64, charge: i64
 }
 
 // An hour at one power, with the target that its sign asks for.
-pub fn steady_energy(powers: &mut [i64], power: i64, target: i64) -> Charged {
+pub(crate) fn steady_energy(powers: &mut [i64], power: i64, target: i64) -> Charged {
     let targets = [target, target, target, target];
     readings::stretch(powers, 0, 3_600, power);
     fees::energy_fee(powers, &targets, 200_000, 50_000)
@@ -123,7 +123,7 @@ fn limits_of_energy(powers: &mut [i64]) {
     energy(b"least", powers, -100_000, 10_000_000, 10_000_000);
 }
 
-pub fn of_energy() {
+pub(crate) fn of_energy() {
     text::heading(b"document 001, table 5: the energy service fee");
     let mut powers = [0i64; 3600];
     table_5(&mut powers);
@@ -151,7 +151,7 @@ fn loss(charged: i64, discharged: i64, voltage: i64, cost: i64) {
 }
 
 // Document 001, example 5 and table 3.
-pub fn of_losses() {
+pub(crate) fn of_losses() {
     text::heading(b"document 001, example 5: the loss fee");
     loss(120_000, 84_000, 22_800, 40_000);
     loss(120_000, 96_000, 22_800, 40_000);
@@ -166,7 +166,7 @@ pub fn of_losses() {
     loss(100_000_000, 100_000_000, 1_000_000, 0);
 }
 
-pub fn refused_losses() {
+pub(crate) fn refused_losses() {
     text::heading(b"loss fees past the limits");
     loss(100_000_001, 0, 22_800, 40_000);
     loss(-1, 0, 22_800, 40_000);

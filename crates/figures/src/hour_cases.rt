@@ -6,7 +6,7 @@ use hour::Terms;
 use units::Kilowatts;
 
 // 10 MW at 430 and 350 dollars, energy at 2,000 and 500 dollars.
-pub fn terms_of(targets: [i64; 5]) -> Terms {
+pub(crate) fn terms_of(targets: [i64; 5]) -> Terms {
     Terms {
         capacity: Kilowatts(10_000),
         clearing: 43_000,
@@ -18,7 +18,7 @@ pub fn terms_of(targets: [i64; 5]) -> Terms {
 }
 
 // Every field of a settlement.
-pub fn settlement(label: &[u8], s: Settlement) {
+pub(crate) fn settlement(label: &[u8], s: Settlement) {
     let capacity = s.capacity;
     let performance = s.performance;
     let quality = s.quality;
@@ -136,7 +136,7 @@ fn limits(powers: &mut [i64], frequencies: &mut [i64]) {
     level(b"a frequency below", powers, frequencies, 0, 54_999);
 }
 
-pub fn dreg_hours() {
+pub(crate) fn dreg_hours() {
     text::heading(b"dReg hours");
     let mut powers = [0i64; 3600];
     let mut frequencies = [0i64; 3600];
@@ -251,7 +251,7 @@ fn extremes(powers: &mut [i64], frequencies: &mut [i64]) {
     );
 }
 
-pub fn shift_hours() {
+pub(crate) fn shift_hours() {
     text::heading(b"E-dReg hours");
     let mut powers = [0i64; 3600];
     let mut frequencies = [60_000i64; 3600];

@@ -106,7 +106,7 @@ fn forged(powers: &[i64], frequencies: &[i64]) {
     );
 }
 
-pub fn joint() {
+pub(crate) fn joint() {
     text::heading(b"joint calls");
     let mut powers = [0i64; 3600];
     let frequencies = [60_000i64; 3600];

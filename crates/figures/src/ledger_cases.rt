@@ -71,7 +71,7 @@ fn closed(m: Month) {
     read_out(m);
 }
 
-pub fn a_month() {
+pub(crate) fn a_month() {
     text::heading(b"a month by hand");
     let m = posted();
     let m = changed(m);
@@ -110,7 +110,7 @@ fn loss_fees(m: Month) {
 }
 
 // Days, hours, amounts and fees at and past their limits.
-pub fn limits() {
+pub(crate) fn limits() {
     text::heading(b"the ledger at and past the limits");
     lengths();
     let m = book(b"open 30", Month::open(30));
@@ -132,7 +132,7 @@ fn full(amount: i64) -> Month {
     m
 }
 
-pub fn largest() {
+pub(crate) fn largest() {
     text::heading(b"the largest month");
     let most = full(1_000_000_000);
     book(
@@ -164,7 +164,7 @@ fn opened(days: u8) -> Month {
     b.month
 }
 
-pub fn forged() {
+pub(crate) fn forged() {
     let mut m = opened(30);
     m.amounts[0] = 1;
     forge(b"forged: an amount in an empty place", m);

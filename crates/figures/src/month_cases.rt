@@ -105,7 +105,7 @@ fn dreg(m: Month, day: u8, hour: u8, capacity: i64, clearing: i64, rate: u8) -> 
 }
 
 // Document 001, table 4.
-pub fn march() {
+pub(crate) fn march() {
     text::heading(b"document 001, table 4: a dReg month");
     let m = opened(31);
     let m = dreg(m, 3, 10, 10, 43_000, 96);
@@ -154,7 +154,7 @@ fn april_rest(m: Month, powers: &mut [i64], from: u8, to: u8, clearing: i64) -> 
 }
 
 // Document 001, table 6.
-pub fn april() {
+pub(crate) fn april() {
     text::heading(b"document 001, table 6: an E-dReg month");
     let mut powers = [0i64; 3600];
     let m = opened(30);
@@ -177,7 +177,7 @@ fn post(m: Month, day: u8, hour: u8, amount: i64) -> Month {
 }
 
 // Document 001, table 11: its second day on whole hourly amounts.
-pub fn january() {
+pub(crate) fn january() {
     text::heading(b"document 001, table 11: hours are rounded, then added");
     let m = opened(31);
     let m = post(m, 4, 18, -31_817);

@@ -49,7 +49,7 @@ fn case(label: &[u8], last: i64, target: i64, run: &mut [i64]) {
 }
 
 // Document 000, table 2.
-pub fn table() {
+pub(crate) fn table() {
     text::heading(b"document 000, table 2: the ramp second by second");
     let mut run = [0i64; 900];
     case(b"case 1", 0, 5_000, &mut run);
@@ -69,7 +69,7 @@ fn targets(run: &mut [i64]) {
     fill(b"i64", i64::MIN, i64::MAX, run);
 }
 
-pub fn refused() {
+pub(crate) fn refused() {
     text::heading(b"ramps at and past the limits");
     let mut run = [7i64; 900];
     targets(&mut run);

@@ -6,7 +6,7 @@ fn chosen(taken: bool, value: i64, old: i64) -> i64 {
 }
 
 // The same value from a place on, up to another or the run's end.
-pub fn stretch(run: &mut [i64], from: usize, to: usize, value: i64) {
+pub(crate) fn stretch(run: &mut [i64], from: usize, to: usize, value: i64) {
     let mut i = from;
     while i < run.len() {
         let old = run[i];
@@ -20,7 +20,7 @@ fn chosen_score(taken: bool, score: u8, old: u8) -> u8 {
     if taken { score } else { old }
 }
 
-pub fn score_stretch(run: &mut [u8], from: usize, to: usize, score: u8) {
+pub(crate) fn score_stretch(run: &mut [u8], from: usize, to: usize, score: u8) {
     let mut i = from;
     while i < run.len() {
         let old = run[i];
@@ -30,9 +30,21 @@ pub fn score_stretch(run: &mut [u8], from: usize, to: usize, score: u8) {
     }
 }
 
+<<<<<<< HEAD
 // The planned transfer of each second of an hour.
 pub fn follow(run: &mut [i64], targets: &[i64]) {
     ramp::plan(targets, run);
+=======
+// The planned transfer of each second.
+pub(crate) fn follow(run: &mut [i64], targets: &[i64]) {
+    let mut i = 0;
+    while i < run.len() {
+        let planned = ramp::transfer_at(targets, i);
+        let power = planned.0;
+        run[i] = power;
+        i += 1;
+    }
+>>>>>>> cfe9212 (No program crate has a public function)
 }
 
 // A frequency from 59,700 to 60,300.
@@ -41,7 +53,7 @@ fn wavering_at(i: usize) -> i64 {
 }
 
 // Frequencies over the whole curve.
-pub fn waver(run: &mut [i64]) {
+pub(crate) fn waver(run: &mut [i64]) {
     let mut i = 0;
     while i < run.len() {
         let frequency = wavering_at(i);
@@ -55,7 +67,7 @@ fn alternating_at(i: usize, even: i64, odd: i64) -> i64 {
 }
 
 // Two values by turns.
-pub fn alternate(run: &mut [i64], even: i64, odd: i64) {
+pub(crate) fn alternate(run: &mut [i64], even: i64, odd: i64) {
     let mut i = 0;
     while i < run.len() {
         let x = alternating_at(i, even, odd);
@@ -69,7 +81,7 @@ fn mixed(sum: u64, number: u64) -> u64 {
     (sum % MODULUS * 31 + number % MODULUS) % MODULUS
 }
 
-pub fn check_sum(run: &[i64]) -> u64 {
+pub(crate) fn check_sum(run: &[i64]) -> u64 {
     let mut sum = 0;
     let mut i = 0;
     while i < run.len() {
@@ -84,7 +96,7 @@ fn with_score(sum: u64, score: u8) -> u64 {
     mixed(sum, score as u64)
 }
 
-pub fn score_sum(run: &[u8]) -> u64 {
+pub(crate) fn score_sum(run: &[u8]) -> u64 {
     let mut sum = 0;
     let mut i = 0;
     while i < run.len() {

@@ -173,7 +173,7 @@ fn faults(powers: &mut [i64], frequencies: &mut [i64]) {
     lengths(powers, frequencies);
 }
 
-pub fn hours() {
+pub(crate) fn hours() {
     text::heading(b"refused hours: 1, 2, 3, 5, 10, 4 in this order");
     let mut powers = [0i64; 3600];
     let mut frequencies = [0i64; 3600];

@@ -23,7 +23,7 @@ fn show(power: i64, transfer: i64, capacity: i64, frequency: i64) {
 }
 
 // Document 001, example 2, and halves of a percent on either side.
-pub fn seconds() {
+pub(crate) fn seconds() {
     text::heading(b"document 001, example 2: a second's score");
     show(4_300, 0, 10_000, 59_900);
     show(3_500, 0, 10_000, 59_900);
@@ -40,7 +40,7 @@ pub fn seconds() {
     show(-200_000, 100_000, 1, 59_750);
 }
 
-pub fn limits() {
+pub(crate) fn limits() {
     text::heading(b"scores at and past the limits");
     show(200_000, 100_000, 100_000, 55_000);
     show(-200_000, -100_000, 1, 65_000);
@@ -109,7 +109,7 @@ fn stumbles_at_the_ends(scores: &mut [u8]) {
     stumble(b"a score of 255", scores, 0, 1, 255);
 }
 
-pub fn rates() {
+pub(crate) fn rates() {
     text::heading(b"document 001, table 2: rolling rates and the hourly rate");
     let mut scores = [0u8; 3600];
     let eleven = [100u8, 90, 50, 90, 90, 70, 95, 100, 100, 60, 100];
