@@ -32,7 +32,7 @@ pub(crate) fn score_stretch(run: &mut [u8], from: usize, to: usize, score: u8) {
 
 <<<<<<< HEAD
 // The planned transfer of each second of an hour.
-pub fn follow(run: &mut [i64], targets: &[i64]) {
+pub(crate) fn follow(run: &mut [i64], targets: &[i64]) {
     ramp::plan(targets, run);
 =======
 // The planned transfer of each second.
