@@ -1,29 +1,24 @@
 -- An accepted hour is the paper's formula: no part of it is refused where the hour is not, so each part's answer is its plain formula; and an hour that
 -- fits is accepted. Stated over the contracts of `hour` and `dreg_hour` as the source states them. Assumes nothing.
 use Prim.Native.Nat.{ℕ, zero, suc, _+_, _≤_, _<_}
-use mathlib.Core.Path.{_≡_, refl, sym, ap, ap₂, _∙_, subst, subst₂}
-use mathlib.Core.Bool.{Bool, true, false, _&&_}
+use mathlib.Core.Path.{_≡_, refl, sym, ap, _∙_, subst, subst₂}
+use mathlib.Core.Bool.{true, _&&_}
 use mathlib.Core.List.{List, []}
 use native.Mathlib.Nat.{zero-add}
 use native.Mathlib.Omega.{arith}
-use lib.Dec.{eqb}
 use lib.IntN.{ℤ, pos, _+ℤ_, +ℤ-idr}
-use lib.ListN.{length, getD, take, drop, replicate, length-take, length-drop}
+use lib.ListN.{length, getD, drop, replicate, length-take, length-drop}
 use lib.Seq.{getD-take, getD-drop}
-use borrow.Author.Tests.{eqb-true, eq-eqb}
-use Rattle.whole.specs.Choice.{pick}
-use Rattle.whole.specs.Runs.{listed}
 use Rattle.whole.specs.Whole.{minus, inRange, allInRange}
-use Rattle.whole.proofs.Choice.{and-both, by-test, clash}
+use Rattle.whole.proofs.Choice.{and-both}
 use Rattle.whole.proofs.Runs.{length-listed, getD-listed}
 use Rattle.whole.proofs.Sums.{all-inside, inside-all}
 use Rattle.units.specs.declared.Kilowatts.{Kilowatts}
 use Rattle.units.specs.declared.Millihertz.{Millihertz}
-use Rattle.units.specs.declared.Dollars.{Dollars}
 use Rattle.curve.specs.Curve.{upperAt, lowerAt}
 use Rattle.ramp.specs.Ramp.{transferAt}
 use Rattle.ramp.proofs.Laws.{transfer-within, transfer-none, within-target}
-use Rattle.score.specs.Score.{percentOutput, scoreOf, secondScore, secondRefusal}
+use Rattle.score.specs.Score.{percentOutput, scoreOf}
 use Rattle.score.specs.Rolling.{rolling, smallest, hourlyRate}
 use Rattle.score.specs.declared.Rated.{Rated}
 use Rattle.bands.specs.declared.Factored.{Factored}
@@ -34,7 +29,7 @@ use Rattle.bands.proofs.Laws.{lookup-passes, factor-granted, factor-inside}
 use Rattle.fees.specs.Fees.{isPrice, fee, feeAnswer, qualityPart, qualityAnswer, energyFee, energyAnswer, granted}
 use Rattle.fees.proofs.Laws.{fee-granted, fees-fit, quality-granted, energy-granted, no-energy}
 use Rattle.fees.specs.declared.Charged.{Charged}
-use Rattle.hour.specs.Hour.{lengthsFit, pricesFit, readingsFit, quarters, hourRefusal, scoreAt, scoresOf, scoresLeft, answerOf, refusedOf, settledOf, hourOf, dRegTerms}
+use Rattle.hour.specs.Hour.{quarters, hourRefusal, scoreAt, scoresOf, scoresLeft, answerOf, settledOf, hourOf, dRegTerms}
 use Rattle.hour.specs.Accepted.{Accepted}
 use Rattle.hour.specs.declared.Terms.{Terms}
 use Rattle.hour.specs.declared.Settlement.{Settlement}

@@ -8,10 +8,9 @@ use lib.IntN.{ℤ, pos, _+ℤ_}
 use lib.ListN.{length, getD, take, drop, replicate}
 use Rattle.whole.specs.Choice.{pick, unless, orElse, kept}
 use Rattle.whole.specs.Runs.{listed}
-use Rattle.whole.specs.Whole.{minus, inRange, allInRange}
+use Rattle.whole.specs.Whole.{minus, allInRange}
 use Rattle.units.specs.Refusals.{wrongLength, badCapacity, badMoney, badTransfer, badReading}
 use Rattle.units.specs.declared.Kilowatts.{Kilowatts}
-use Rattle.units.specs.declared.Millihertz.{Millihertz}
 use Rattle.units.specs.declared.Dollars.{Dollars}
 use Rattle.ramp.specs.Ramp.{transferAt}
 use Rattle.bands.specs.Bands.{bandsRefusal, factorAnswer}

@@ -1,21 +1,21 @@
 -- A ramp that is accepted is formula 1, second by second, and an hour's plan the ramps of its quarters; and what fits is accepted. Over the contracts of
 -- `ramp` and `plan` as the source states them: they are equations, and a number that is 0 has let every test through. Assumes nothing.
-use Prim.Native.Nat.{ℕ, _+_, _<_}
+use Prim.Native.Nat.{ℕ}
 use mathlib.Core.Path.{_≡_, sym, ap, _∙_, subst}
 use mathlib.Core.List.{List}
 use native.Mathlib.Omega.{arith}
 use lib.IntN.{ℤ, pos}
-use lib.ListN.{length, getD}
+use lib.ListN.{length}
 use contract.Lifetimes.{Lfts}
 use denote.Ref.{now}
 use denote.Triple.Clauses.{AtExit}
 use borrow.Fn.Kinds.{Dens, endedOf}
 use borrow.Author.Tests.{eq-eqb}
 use Rattle.whole.specs.Whole.{Within}
-use Rattle.whole.proofs.Choice.{both, kept-new}
+use Rattle.whole.proofs.Choice.{kept-new}
 use Rattle.whole.proofs.Runs.{length-listed, getD-listed}
 use Rattle.units.specs.declared.Kilowatts.{Kilowatts}
-use Rattle.ramp.specs.Ramp.{rampAt, quarter, areTargets, rampRefusal, rampLeft, transferAt, planOf, planRefusal, planLeft, Ramped, Planned}
+use Rattle.ramp.specs.Ramp.{rampAt, quarter, areTargets, rampRefusal, rampLeft, planOf, planRefusal, planLeft, Ramped, Planned}
 use Rattle.ramp.proofs.Laws.{within-target, PlanFit, plan-at, length-plan}
 use Rattle.ramp.proofs.ramp.Reads as ramp
 use Rattle.ramp.proofs.ramp.Kinds as ramp-kinds

@@ -1,7 +1,4 @@
 -- `hour::answer` meets its contract. Assumes nothing.
-use mathlib.Core.Path.{_≡_, refl, sym, ap, ap₂, _∙_}
-use mir.Syntax.{w64}
-use mir.Val.{SFits}
 use mir.Facts.{toZ-ofZ}
 use Rattle.hour.specs.Hour.{answerOf}
 use Rattle.hour.proofs.answer.Statement.{statement}

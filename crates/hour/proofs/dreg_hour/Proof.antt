@@ -1,7 +1,4 @@
 -- `hour::dreg_hour` meets its contract: by that of `hour`. Assumes nothing.
-use mathlib.Core.Path.{_≡_, refl, sym, ap, ap₂, _∙_}
-use mir.Syntax.{w64}
-use mir.Val.{SFits}
 use mir.Facts.{toZ-ofZ}
 use borrow.Author.Needs.{needs}
 use Rattle.hour.proofs.dreg_hour.Statement.{statement}

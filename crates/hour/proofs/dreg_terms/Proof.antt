@@ -1,7 +1,4 @@
 -- `hour::dreg_terms` meets its contract. Assumes nothing.
-use mathlib.Core.Path.{_≡_, refl, sym, ap, ap₂, _∙_}
-use mir.Syntax.{w64}
-use mir.Val.{SFits}
 use mir.Facts.{toZ-ofZ}
 use Rattle.hour.specs.Hour.{dRegTerms}
 use Rattle.hour.proofs.dreg_terms.Statement.{statement}

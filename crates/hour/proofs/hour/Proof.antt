@@ -9,7 +9,7 @@ use Rattle.whole.specs.Choice.{unless, orElse}
 use Rattle.whole.proofs.Choice.{or-first, or-rest, kept-new, kept-old}
 use Rattle.units.specs.Refusals.{badReading}
 use Rattle.hour.specs.Hour.{readingsFit, termsRefusal, hourRefusal, scoresOf, settledOf, refusedOf}
-use Rattle.hour.proofs.Laws.{TermsFit, terms-fit, readings-last, hour-granted, hour-refused, scores-granted, scores-refused}
+use Rattle.hour.proofs.Laws.{terms-fit, readings-last, hour-granted, hour-refused, scores-granted, scores-refused}
 use Rattle.hour.proofs.hour.Statement.{statement}
 use Rattle.hour.proofs.hour.Tie as tie
 

@@ -1,5 +1,4 @@
 -- `hour::join` meets its contract: by its one test. Assumes nothing.
-use mathlib.Core.Path.{_≡_, refl, sym, ap, ap₂, _∙_}
 use borrow.Author.Tests.{eq-eqb, ne-eqb}
 use Rattle.hour.specs.Joint.{joined}
 use borrow.Author.Needs.{needs}

@@ -1,5 +1,5 @@
 -- `hour::joint` meets its contract: the hour by its contract over a run of its own, and the post. Assumes nothing.
-use mathlib.Core.Path.{_≡_, refl, sym, ap, ap₂, _∙_}
+use mathlib.Core.Path.{ap, _∙_}
 use Rattle.hour.specs.Joint.{postedOf, jointOf}
 use Rattle.hour.specs.declared.Settlement.{Settlement}
 use borrow.Author.Needs.{needs}

@@ -1,7 +1,5 @@
 -- `hour::quality_of` meets its contract: the dollars of the call's answer. Assumes nothing.
-use mathlib.Core.Path.{_≡_, refl, sym, ap, ap₂, _∙_}
-use mir.Syntax.{w64}
-use mir.Val.{SFits}
+use mathlib.Core.Path.{ap}
 use mir.Facts.{toZ-ofZ}
 use Rattle.fees.specs.declared.Charged.{Charged}
 use borrow.Author.Needs.{needs}

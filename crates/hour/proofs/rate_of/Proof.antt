@@ -1,5 +1,5 @@
 -- `hour::rate_of` meets its contract: the rate of the call's answer. Assumes nothing.
-use mathlib.Core.Path.{_≡_, refl, sym, ap, ap₂, _∙_}
+use mathlib.Core.Path.{ap}
 use Rattle.score.specs.declared.Rated.{Rated}
 use borrow.Author.Needs.{needs}
 use Rattle.hour.proofs.rate_of.Statement.{statement}

@@ -1,15 +1,12 @@
 -- `hour::settled` meets its contract: straight-line code that mirrors the definition, and the amount fits. Assumes nothing.
 use Rattle.whole.proofs.Signed.{back}
-use Rattle.hour.specs.declared.Settlement.{Settlement}
-use mathlib.Core.Path.{_≡_, refl, sym, ap, ap₂, _∙_}
+use mathlib.Core.Path.{_≡_, ap, _∙_}
 use mir.Syntax.{w64}
 use mir.Val.{SFits}
 use mir.Facts.{toZ-ofZ}
 use Prim.Native.Nat.{ℕ}
 use lib.IntN.{ℤ, _+ℤ_}
 use lib.ListN.{take, drop}
-use Rattle.units.specs.declared.Dollars.{Dollars}
-use Rattle.units.specs.declared.Kilowatts.{Kilowatts}
 use Rattle.bands.specs.Bands.{factorAnswer}
 use Rattle.score.specs.Rolling.{hourlyRate}
 use Rattle.fees.specs.Fees.{feeAnswer, qualityAnswer, energyAnswer}

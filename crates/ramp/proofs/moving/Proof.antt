@@ -1,5 +1,4 @@
 -- `ramp::moving` meets its contract: from a target to itself a ramp is level, and past second 300 it is its target. Assumes nothing.
-use Prim.Native.Nat.{ℕ, _<_}
 use mathlib.Core.Path.{_≡_, sym, ap, _∙_}
 use native.Mathlib.Omega.{arith}
 use mir.Syntax.{w64}

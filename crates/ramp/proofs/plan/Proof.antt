@@ -1,5 +1,5 @@
 -- `ramp::plan` meets its contract, by those of `plan_refusal` and `fill_hour`. Assumes nothing.
-use mathlib.Core.Path.{_≡_, sym, _∙_}
+use mathlib.Core.Path.{sym, _∙_}
 use borrow.Author.Needs.{needs}
 use Rattle.whole.proofs.Choice.{kept-new, kept-old}
 use Rattle.ramp.specs.Ramp.{planLeft}
