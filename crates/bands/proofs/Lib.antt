@@ -4,5 +4,5 @@ pub mod Laws
 mod Gathering
 mod Lent
 mod Determined
-mod Refused
+mod RefusedKeeps
 pub mod Accepted

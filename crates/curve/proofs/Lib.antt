@@ -4,4 +4,4 @@ mod Laws
 pub mod Limits
 pub mod Accepted
 mod Determined
-mod Refused
+mod RefusedKeeps

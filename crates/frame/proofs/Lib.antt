@@ -8,4 +8,4 @@ pub mod RoundTrip
 mod Samples
 mod Contracts
 mod Determined
-mod Refused
+mod RefusedKeeps

@@ -3,5 +3,5 @@ pub mod Laws
 pub mod Accepted
 pub mod SameNumbers
 mod Determined
-mod Refusals
+mod RefusedKeeps
 pub mod Demand

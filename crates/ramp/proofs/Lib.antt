@@ -2,4 +2,4 @@
 pub mod Laws
 pub mod Accepted
 mod Determined
-mod Refused
+mod RefusedKeeps

@@ -5,4 +5,4 @@ pub mod Run
 pub mod Rates
 pub mod Accepted
 mod Determined
-mod Refused
+mod RefusedKeeps

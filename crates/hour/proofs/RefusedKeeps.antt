@@ -40,8 +40,8 @@ dreg-hour-refused-keeps :
     RefusedKeeps 5 dreg-hour-kinds.ps dreg-hour-kinds.r (λ κs r. number r) (λ κs a k. refusedOf k) (λ κs a. now (a .1 .1 .1 .1 .1 .1 .1 .0)) (λ κs s. now (s .1 .1 .1 .1 .1 .1 .1 .0)) dreg-hour-reads.Post
 dreg-hour-refused-keeps κs a r s p f = keeps _ _ _ _ _ _ _ r (p .0) (p .1) f
 
-joint-refused-bare : RefusedBare 4 joint-kinds.ps joint-kinds.r (λ κs j. number (j .hour)) (λ κs b k. refusedBeside (monthGiven κs b) k) joint-reads.Post
-joint-refused-bare κs b j e p f =
+joint-refused-keeps : RefusedBare 4 joint-kinds.ps joint-kinds.r (λ κs j. number (j .hour)) (λ κs b k. refusedBeside (monthGiven κs b) k) joint-reads.Post
+joint-refused-keeps κs b j e p f =
     let posts = joint-posts κs b j e p in
     let told = ap (λ (x : Joined). number (x .hour)) posts in
     posts ∙ posted-bare (workedBy κs b) (monthGiven κs b) _ _ (λ z. f (told ∙ z)) ∙ ap (refusedBeside (monthGiven κs b)) (sym told)
