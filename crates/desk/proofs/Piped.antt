@@ -2,29 +2,31 @@
 -- hour comes to, on the day and hour asked, and leaves the book that this post leaves. By the frame's round trip. Assumes nothing.
 use Prim.Native.Nat.{ℕ}
 use mathlib.Core.Path.{_≡_, ap}
-use mathlib.Core.Bool.{Bool, true}
+use mathlib.Core.Bool.{true}
 use mathlib.Core.List.{List}
 use lib.IntN.{ℤ}
 use Rattle.history.specs.Rules.{Call}
 use Rattle.frame.specs.Frame.{readingOf, lineOf}
 use Rattle.intake.specs.Book.{Book, callOf, callRefusal, callBook, frameRefusal, frameBook, readingRefusal, bookIn}
-use Rattle.hours.specs.Numbers.{number, byteOf}
-use Rattle.hours.specs.Hours.{hourAsked, settlement}
+use Rattle.words.specs.Numbers.{number, byteOf}
+use Rattle.words.specs.declared.Hour.{Hour}
+use Rattle.words.specs.declared.Places.{Places}
+use Rattle.hours.specs.Hours.{settlement}
 use Rattle.question.specs.Frames.{hourFrame}
 use Rattle.question.specs.Lines as lines
-use Rattle.question.proofs.Posting.{posting, Posts, posts}
+use Rattle.question.proofs.Posting.{hourFramed, posting, Posts, posts}
 
 -- the line posts the hour that was asked; what the ledger's program answers to it, and keeps
-pub record Piped (shifting : Bool) (n : List ℤ) (book : Book) (day hour : ℕ) : Type 0 where
-  pub posted : Posts shifting n day hour
-  pub answered : readingRefusal book (readingOf (lineOf (posting day hour (hourAsked shifting n 2))))
-      ≡ callRefusal book (Call.post day hour (true, settlement (hourAsked shifting n 2) .amount .0))
-  pub kept : bookIn book (readingOf (lineOf (posting day hour (hourAsked shifting n 2))))
-      ≡ callBook book (Call.post day hour (true, settlement (hourAsked shifting n 2) .amount .0))
+pub record Piped (asks : Hour) (n : List ℤ) (places : Places) (book : Book) (day hour : ℕ) : Type 0 where
+  pub posted : Posts asks n places day hour
+  pub answered : readingRefusal book (readingOf (lineOf (posting day hour (hourFramed asks n places))))
+      ≡ callRefusal book (Call.post day hour (true, settlement (hourFramed asks n places) .amount .0))
+  pub kept : bookIn book (readingOf (lineOf (posting day hour (hourFramed asks n places))))
+      ≡ callBook book (Call.post day hour (true, settlement (hourFramed asks n places) .amount .0))
 
-pub books-the-hour : (shifting : Bool) (n : List ℤ) (book : Book) → lines.frameRefusal (hourFrame shifting n) ≡ 0
-    → Piped shifting n book (byteOf (number n 0)) (byteOf (number n 1))
+pub books-the-hour : (asks : Hour) (n : List ℤ) (places : Places) (book : Book) → lines.frameRefusal (hourFrame asks n places) ≡ 0
+    → Piped asks n places book (byteOf (number n 0)) (byteOf (number n 1))
 unfolding frameRefusal frameBook callOf
-books-the-hour shifting n book z =
-    let p = posts shifting n z in
+books-the-hour asks n places book z =
+    let p = posts asks n places z in
     record { posted = p; answered = ap (readingRefusal book) (p .reads); kept = ap (bookIn book) (p .reads) }

@@ -1,3 +1,2 @@
 -- The questions about a whole hour.
-pub mod Numbers
 pub mod Hours

@@ -11,10 +11,9 @@ use Rattle.words.specs.declared.Few.{Few}
 use Rattle.words.specs.declared.Rule.{Rule}
 use Rattle.words.specs.declared.Rule.the-variants.{Kilowatts, Curve, Score, Rate, Bands, Factor, Fee, Quality, Energy, Loss}
 use Rattle.words.specs.declared.Hour.{Hour}
-use Rattle.words.specs.declared.Hour.the-variants.{Dreg, Edreg}
+use Rattle.words.specs.declared.Places.{Places}
 use Rattle.rules.specs.Rules.{ruleReply, kilowattsReply, curveReply, scoreReply, rateReply, bandsReply, factorReply, feeReply, qualityReply, energyReply, lossReply}
 use Rattle.hours.specs.Hours.{hourReply}
-use Rattle.hours.specs.Hours.{hourOf}
 
 front : (xs ys : List ℤ) (m : ℕ) → length xs ≤ m → take (length xs) (take m (xs ++ ys)) ≡ xs
 front [] ys m h = refl
@@ -42,7 +41,6 @@ rule-few Quality n t = omega arith
 rule-few Energy n t = omega arith
 rule-few Loss n t = omega arith
 
-pub hour-few : (hour : Hour) (n : List ℤ) → length (hourOf hour n .fields) ≤ 12
+pub hour-few : (hour : Hour) (n : List ℤ) (places : Places) → length (hourReply hour n places .fields) ≤ 12
 unfolding hourReply
-hour-few Dreg n = omega arith
-hour-few Edreg n = omega arith
+hour-few hour n places = omega arith

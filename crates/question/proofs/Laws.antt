@@ -1,24 +1,17 @@
--- Numbers that are read as bytes or counts, columns of pairs, and runs that a loop fills. By cases and by induction. Assumes nothing.
-use Prim.Native.Nat.{ℕ, zero, suc, _+_, _-_, _*_, _≤_, _<_}
-use mathlib.Core.Path.{_≡_, refl, sym, ap, ap₂, _∙_}
+-- A ramp's quarter, and how much of a run is printed. By the test of the refusal. Assumes nothing.
+use Prim.Native.Nat.{ℕ, _≤_}
+use mathlib.Core.Path.{_≡_}
 use mathlib.Core.Bool.{true, false}
-use mathlib.Core.List.{List, [], _∷_, map}
-use native.Mathlib.Nat.{add-zero, zero-add, add-suc, suc-add, le-of-suc-le-suc, not-suc-le-zero}
+use mathlib.Core.List.{List, []}
 use native.Mathlib.Omega.{arith}
-use lib.Dec.{T, eqb}
-use lib.IntN.{ℤ, pos, negsuc, natAbs}
-use lib.ListN.{length, getD, take, drop, length-drop}
+use lib.Dec.{eqb}
+use lib.IntN.{ℤ}
+use lib.ListN.{length, take}
 use lib.Seq.{take-all}
-use lib.Signed.{nonNeg}
-use borrow.Author.Tests.{eqb-true}
-use Rattle.whole.specs.Choice.{orElse, kept}
-use Rattle.whole.specs.Runs.{listed}
-use Rattle.whole.specs.Whole.{up, inRange}
+use Rattle.whole.specs.Choice.{kept}
 use Rattle.whole.proofs.Choice.{by-test}
-use Rattle.whole.proofs.Runs.{length-listed}
-use Rattle.whole.proofs.Signed.{inside}
 use Rattle.ramp.specs.Ramp.{rampRefusal, rampLeft}
-use Rattle.hours.specs.Numbers.{number, kilowatts, column, pairsSaid}
+use Rattle.rules.specs.Numbers.{kilowatts}
 use Rattle.words.specs.Replies.{reply}
 use Rattle.question.specs.Rules.{rampReply}
 

@@ -2,10 +2,11 @@
 -- that were asked for, and the line reads back as the post of its amount. By the frame's round trip. Assumes nothing.
 use Prim.Native.Nat.{ℕ, _<_}
 use mathlib.Core.Path.{_≡_, refl, ap, _∙_}
-use mathlib.Core.Bool.{Bool, true, false, _&&_}
+use mathlib.Core.Bool.{true, false, _&&_}
 use mathlib.Core.List.{List, _++_}
 use native.Mathlib.Omega.{arith}
 use lib.IntN.{ℤ, pos, negsuc}
+use lib.ListN.{drop}
 use mir.Syntax.{w64}
 use mir.Val.{SFits}
 use Rattle.whole.specs.Whole.{inRange}
@@ -17,7 +18,9 @@ use Rattle.frame.specs.declared.Entry.{Entry}
 use Rattle.frame.specs.declared.Reading.the-variants.{Frame}
 use Rattle.frame.proofs.RoundTrip.{Held, read-written}
 use Rattle.hour.proofs.Demand.{hour-within}
-use Rattle.hours.specs.Numbers.{number, isByte, byteOf}
+use Rattle.words.specs.Numbers.{number, isByte, byteOf}
+use Rattle.words.specs.declared.Hour as words
+use Rattle.words.specs.declared.Places.{Places}
 use Rattle.hours.specs.Hours.{Hour, hourAsked, settlement}
 use Rattle.question.specs.Frames.{framed, hourFrame}
 use Rattle.question.specs.Lines.{lineEnd, frameRefusal, frameText}
@@ -39,38 +42,42 @@ amount-fits : (h : Hour) → SFits w64 (settlement h .amount .0)
 unfolding settlement
 amount-fits h = within-fits w64 tt (hour-within (h .powers) (h .frequencies) 3600 (h .terms) (h .thresholds) (h .factors))
 
+-- the hour that a frame's question asks about: its terms stand after its day and its hour
+abbrev pub hourFramed : words.Hour → List ℤ → Places → Hour
+hourFramed asks n places = hourAsked asks (drop 2 n) n places
+
 -- a post of an hour
 abbrev pub posting : ℕ → ℕ → Hour → Entry
 posting day hour h = record { kind = postKind; day = day; hour = hour; amount = settlement h .amount }
 
-pub record Posts (shifting : Bool) (n : List ℤ) (day hour : ℕ) : Type 0 where
-  pub accepted : settlement (hourAsked shifting n 2) .refusal ≡ 0
+pub record Posts (asks : words.Hour) (n : List ℤ) (places : Places) (day hour : ℕ) : Type 0 where
+  pub accepted : settlement (hourFramed asks n places) .refusal ≡ 0
   pub day-asked : pos day ≡ number n 0
   pub hour-asked : pos hour ≡ number n 1
-  pub text : frameText (hourFrame shifting n) ≡ lineOf (posting day hour (hourAsked shifting n 2)) ++ lineEnd
-  pub reads : readingOf (lineOf (posting day hour (hourAsked shifting n 2))) ≡ Frame (posting day hour (hourAsked shifting n 2))
+  pub text : frameText (hourFrame asks n places) ≡ lineOf (posting day hour (hourFramed asks n places)) ++ lineEnd
+  pub reads : readingOf (lineOf (posting day hour (hourFramed asks n places))) ≡ Frame (posting day hour (hourFramed asks n places))
 
-entry-is : (shifting : Bool) (n : List ℤ) → hourFrame shifting n .entry ≡ posting (byteOf (number n 0)) (byteOf (number n 1)) (hourAsked shifting n 2)
+entry-is : (asks : words.Hour) (n : List ℤ) (places : Places) → hourFrame asks n places .entry ≡ posting (byteOf (number n 0)) (byteOf (number n 1)) (hourFramed asks n places)
 unfolding hourFrame framed byteOf inRange
-entry-is shifting n = refl
+entry-is asks n places = refl
 
 reads-back : (z x : ℤ) (h : Hour) → let e = posting (byteOf z) (byteOf x) h in readingOf (lineOf e) ≡ Frame e
 unfolding inForm
 reads-back z x h =
     read-written (posting (byteOf z) (byteOf x) h) (record { kind = omega arith; day = byte-below z; hour = byte-below x; amount = amount-fits h }) refl
 
-pub posts : (shifting : Bool) (n : List ℤ) → frameRefusal (hourFrame shifting n) ≡ 0 → Posts shifting n (byteOf (number n 0)) (byteOf (number n 1))
+pub posts : (asks : words.Hour) (n : List ℤ) (places : Places) → frameRefusal (hourFrame asks n places) ≡ 0 → Posts asks n places (byteOf (number n 0)) (byteOf (number n 1))
 unfolding hourFrame framed frameText
-posts shifting n z =
-    let h = hourAsked shifting n 2 in
+posts asks n places z =
+    let h = hourFramed asks n places in
     let day = number n 0 in
     let hour = number n 1 in
-    let p = both-passed (settlement h .refusal) _ (both-passed _ (writeRefusal (hourFrame shifting n .entry) 24) z .0) in
+    let p = both-passed (settlement h .refusal) _ (both-passed _ (writeRefusal (hourFrame asks n places .entry) 24) z .0) in
     let b = and-both (isByte day) (isByte hour) (passed (isByte day && isByte hour) 5 0 (passed (isByte (pos postKind)) 12 _ (p .1) .1) .0) in
     record {
       accepted = p .0;
       day-asked = byte-is day (b .0);
       hour-asked = byte-is hour (b .1);
-      text = kept-new _ _ z ∙ ap (λ (e : Entry). lineOf e ++ lineEnd) (entry-is shifting n);
+      text = kept-new _ _ z ∙ ap (λ (e : Entry). lineOf e ++ lineEnd) (entry-is asks n places);
       reads = reads-back day hour h;
     }

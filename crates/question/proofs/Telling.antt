@@ -20,7 +20,7 @@ module _ (word line found place : ℕ) (n : List ℤ) (row : Row) (places : Plac
   unfolding faultOf
   number = rw (e, e₁, p, r)
 
-  pub right : k ≡ 0 → answerText (row .question) n (places .tail) ≡ replyText word line found place n
+  pub right : k ≡ 0 → answerText (row .question) n places ≡ replyText word line found place n
   unfolding replyText
   right z = rw (p, r) (sym (kept-new _ _ (sym number ∙ z)))
 

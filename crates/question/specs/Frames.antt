@@ -1,12 +1,15 @@
 -- The questions that print a frame.
 use Prim.Native.Nat.{ℕ}
-use mathlib.Core.Bool.{Bool, _&&_}
+use mathlib.Core.Bool.{_&&_}
 use mathlib.Core.List.{List}
 use lib.IntN.{ℤ, pos}
+use lib.ListN.{drop}
 use Rattle.whole.specs.Choice.{unless, orElse}
 use Rattle.units.specs.Refusals.{notInMonth, badKind}
 use Rattle.frame.specs.Kinds.{postKind}
-use Rattle.hours.specs.Numbers.{number, isByte, byteOf}
+use Rattle.words.specs.Numbers.{number, isByte, byteOf}
+use Rattle.words.specs.declared.Hour.{Hour}
+use Rattle.words.specs.declared.Places.{Places}
 use Rattle.hours.specs.Hours.{hourAsked, settlement}
 use Rattle.question.specs.declared.Framed.{Framed}
 
@@ -23,6 +26,6 @@ unfoldable pub frameAsked : List ℤ → Framed
 frameAsked n = framed 0 (number n 0) (number n 1) (number n 2) (number n 3)
 
 -- DAY HOUR, then an hour: the frame that posts its amount
-unfoldable pub hourFrame : Bool → List ℤ → Framed
-hourFrame shifting n =
-    let a = settlement (hourAsked shifting n 2) in framed (a .refusal) (pos postKind) (number n 0) (number n 1) (a .amount .0)
+unfoldable pub hourFrame : Hour → List ℤ → Places → Framed
+hourFrame hour n places =
+    let a = settlement (hourAsked hour (drop 2 n) n places) in framed (a .refusal) (pos postKind) (number n 0) (number n 1) (a .amount .0)

@@ -4,7 +4,8 @@ use lib.IntN.{ℤ}
 use Rattle.whole.specs.Choice.{kept}
 use Rattle.ramp.specs.Ramp.{quarter, rampRefusal}
 use Rattle.words.specs.Replies.{Reply, reply}
-use Rattle.hours.specs.Numbers.{number, kilowatts}
+use Rattle.words.specs.Numbers.{number}
+use Rattle.rules.specs.Numbers.{kilowatts}
 
 -- LAST TARGET: 0 and the 900 seconds' powers; or the refusal alone
 unfoldable pub rampReply : List ℤ → Reply

@@ -12,6 +12,8 @@ use frame::Entry;
 use frame::kinds;
 use units::Dollars;
 use units::refusals;
+use words::Hour;
+use words::Places;
 
 // A frame, after the number of a refusal that comes before its own: 13, 6.
 fn framed(before: u8, kind: i64, day: i64, hour: i64, amount: i64) -> Framed
@@ -27,9 +29,9 @@ fn framed(before: u8, kind: i64, day: i64, hour: i64, amount: i64) -> Framed
     Framed {
         refusal: k,
         entry: Entry {
-            kind: hours::columns::byte_of(kind),
-            day: hours::columns::byte_of(day),
-            hour: hours::columns::byte_of(hour),
+            kind: words::byte_of(kind),
+            day: words::byte_of(day),
+            hour: words::byte_of(hour),
             amount: Dollars(amount),
         },
     }
@@ -47,12 +49,13 @@ fn asked(numbers: &[i64]) -> Framed
     )
 }
 
-// The frame that posts an hour's amount.
-fn of_hour(shifting: bool, numbers: &[i64]) -> Framed
-    ensures { λ r. ⌜ r ≡ hourFrame shifting (now (numbers .entry)) ⌝ }
+// The frame that posts an hour's amount; its terms stand after its day and its hour.
+fn of_hour(hour: Hour, numbers: &[i64], places: Places) -> Framed
+    ensures { λ r. ⌜ r ≡ hourFrame hour (now (numbers .entry)) places ⌝ }
 {
     let mut scores = [0u8; 3600];
-    let settled = hours::settle(shifting, numbers, 2, &mut scores);
+    let terms = words::rest(numbers, 2);
+    let settled = hours::settle(hour, terms, numbers, places, &mut scores);
     let amount = settled.amount;
     framed(
         settled.refusal,
@@ -63,12 +66,12 @@ fn of_hour(shifting: bool, numbers: &[i64]) -> Framed
     )
 }
 
-pub(crate) fn answer(asks: words::Framed, numbers: &[i64]) -> Framed
-    ensures { λ r. ⌜ r ≡ frameOf asks (now (numbers .entry)) ⌝ }
+pub(crate) fn answer(asks: words::Framed, numbers: &[i64], places: Places) -> Framed
+    ensures { λ r. ⌜ r ≡ frameOf asks (now (numbers .entry)) places ⌝ }
 {
     match asks {
-        words::Framed::DregFrame => of_hour(false, numbers),
-        words::Framed::EdregFrame => of_hour(true, numbers),
+        words::Framed::DregFrame => of_hour(Hour::Dreg, numbers, places),
+        words::Framed::EdregFrame => of_hour(Hour::Edreg, numbers, places),
         words::Framed::Frame => asked(numbers),
     }
 }

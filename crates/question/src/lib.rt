@@ -7,15 +7,15 @@ ghost use Rattle.words.specs.Replies.{unboxed};
 ghost use Rattle.words.specs.Shapes.{headOf};
 ghost use Rattle.rules.specs.Rules.{ruleReply};
 ghost use Rattle.question.specs.Rules.{rampReply};
-ghost use Rattle.hours.specs.Hours.{scoresReply};
+ghost use Rattle.hours.specs.Hours.{hourReply, scoresReply};
 ghost use Rattle.question.specs.Lines.{room, lineText, faultText, answered, printed};
 ghost use Rattle.question.specs.Questions.{runOf, answerText, replyText};
-ghost use Rattle.hours.specs.Hours.{hourOf};
 use frame::Entry;
 use units::Kilowatts;
 use units::refusals;
 use words::Few;
 use words::Hour;
+use words::Places;
 use words::Question;
 use words::Rule;
 use words::Run;
@@ -62,13 +62,13 @@ fn put_rule(rule: Rule, numbers: &[i64], tail: usize, out: &mut [u8]) -> usize
     put_few(few, out)
 }
 
-fn put_hour(hour: Hour, numbers: &[i64], out: &mut [u8]) -> usize
+fn put_hour(hour: Hour, numbers: &[i64], places: Places, out: &mut [u8]) -> usize
     requires { ⌜ room ≤ length (now out) ⌝ }
-    ensures place { λ r. ⌜ r ≡ length (lineText (hourOf hour (now (numbers .entry)))) ⌝ }
-    ensures text { λ r. ⌜ now (out .exit) ≡ put (now (out .entry)) 0 (lineText (hourOf hour (now (numbers .entry)))) ⌝ }
+    ensures place { λ r. ⌜ r ≡ length (lineText (hourReply hour (now (numbers .entry)) places)) ⌝ }
+    ensures text { λ r. ⌜ now (out .exit) ≡ put (now (out .entry)) 0 (lineText (hourReply hour (now (numbers .entry)) places)) ⌝ }
     ensures short { λ r. ⌜ r ≤ room ⌝ }
 {
-    let few = hours::answer(hour, numbers);
+    let few = hours::answer(hour, numbers, places);
     put_few(few, out)
 }
 
@@ -86,52 +86,52 @@ fn put_ramp(numbers: &[i64], out: &mut [u8]) -> usize
     lines::put_line(k, &seconds[..n], out)
 }
 
-fn put_hour_scores(shifting: bool, numbers: &[i64], out: &mut [u8]) -> usize
+fn put_hour_scores(hour: Hour, numbers: &[i64], places: Places, out: &mut [u8]) -> usize
     requires { ⌜ room ≤ length (now out) ⌝ }
-    ensures place { λ r. ⌜ r ≡ length (lineText (scoresReply shifting (now (numbers .entry)))) ⌝ }
-    ensures text { λ r. ⌜ now (out .exit) ≡ put (now (out .entry)) 0 (lineText (scoresReply shifting (now (numbers .entry)))) ⌝ }
+    ensures place { λ r. ⌜ r ≡ length (lineText (scoresReply hour (now (numbers .entry)) places)) ⌝ }
+    ensures text { λ r. ⌜ now (out .exit) ≡ put (now (out .entry)) 0 (lineText (scoresReply hour (now (numbers .entry)) places)) ⌝ }
     ensures short { λ r. ⌜ r ≤ room ⌝ }
 {
     let mut scores = [0u8; 3600];
-    let settled = hours::settle(shifting, numbers, 0, &mut scores);
+    let settled = hours::settle(hour, numbers, numbers, places, &mut scores);
     let k = settled.refusal;
     let n = lines::shown(k, 3600);
     lines::put_score_line(k, &scores[..n], out)
 }
 
-fn put_run(run: Run, numbers: &[i64], out: &mut [u8]) -> usize
+fn put_run(run: Run, numbers: &[i64], places: Places, out: &mut [u8]) -> usize
     requires { ⌜ room ≤ length (now out) ⌝ }
-    ensures place { λ r. ⌜ r ≡ length (lineText (runOf run (now (numbers .entry)))) ⌝ }
-    ensures text { λ r. ⌜ now (out .exit) ≡ put (now (out .entry)) 0 (lineText (runOf run (now (numbers .entry)))) ⌝ }
+    ensures place { λ r. ⌜ r ≡ length (lineText (runOf run (now (numbers .entry)) places)) ⌝ }
+    ensures text { λ r. ⌜ now (out .exit) ≡ put (now (out .entry)) 0 (lineText (runOf run (now (numbers .entry)) places)) ⌝ }
     ensures short { λ r. ⌜ r ≤ room ⌝ }
 {
     match run {
         Run::Ramp => put_ramp(numbers, out),
-        Run::DregScores => put_hour_scores(false, numbers, out),
-        Run::EdregScores => put_hour_scores(true, numbers, out),
+        Run::DregScores => put_hour_scores(Hour::Dreg, numbers, places, out),
+        Run::EdregScores => put_hour_scores(Hour::Edreg, numbers, places, out),
     }
 }
 
 // The line of a question without a fault.
-fn put_answer(question: Question, numbers: &[i64], tail: usize, out: &mut [u8]) -> usize
+fn put_answer(question: Question, numbers: &[i64], places: Places, out: &mut [u8]) -> usize
     requires { ⌜ room ≤ length (now out) ⌝ }
-    ensures place { λ r. ⌜ r ≡ length (answerText question (now (numbers .entry)) tail) ⌝ }
-    ensures text { λ r. ⌜ now (out .exit) ≡ put (now (out .entry)) 0 (answerText question (now (numbers .entry)) tail) ⌝ }
+    ensures place { λ r. ⌜ r ≡ length (answerText question (now (numbers .entry)) places) ⌝ }
+    ensures text { λ r. ⌜ now (out .exit) ≡ put (now (out .entry)) 0 (answerText question (now (numbers .entry)) places) ⌝ }
     ensures short { λ r. ⌜ r ≤ room ⌝ }
 {
     match question {
-        Question::Rule(rule) => put_rule(rule, numbers, tail, out),
-        Question::Hour(hour) => put_hour(hour, numbers, out),
-        Question::Run(run) => put_run(run, numbers, out),
-        Question::Frame(asks) => frames::put_frame(frames::answer(asks, numbers), out),
+        Question::Rule(rule) => put_rule(rule, numbers, places.tail, out),
+        Question::Hour(hour) => put_hour(hour, numbers, places, out),
+        Question::Run(run) => put_run(run, numbers, places, out),
+        Question::Frame(asks) => frames::put_frame(frames::answer(asks, numbers, places), out),
         Question::Unknown => lines::put_alone(0, out),
     }
 }
 
 // The answer, where there is room for a line.
-fn answer(question: Question, numbers: &[i64], tail: usize, out: &mut [u8]) -> Answered
-    ensures answers { λ r. ⌜ r ≡ answered (length (now (out .entry))) (answerText question (now (numbers .entry)) tail) ⌝ }
-    ensures text { λ r. ⌜ now (out .exit) ≡ printed (now (out .entry)) (answerText question (now (numbers .entry)) tail) ⌝ }
+fn answer(question: Question, numbers: &[i64], places: Places, out: &mut [u8]) -> Answered
+    ensures answers { λ r. ⌜ r ≡ answered (length (now (out .entry))) (answerText question (now (numbers .entry)) places) ⌝ }
+    ensures text { λ r. ⌜ now (out .exit) ≡ printed (now (out .entry)) (answerText question (now (numbers .entry)) places) ⌝ }
     ensures short { λ r. ⌜ r .written ≤ length (now (out .entry)) ⌝ }
 {
     if out.len() < ROOM {
@@ -140,7 +140,7 @@ fn answer(question: Question, numbers: &[i64], tail: usize, out: &mut [u8]) -> A
             written: 0,
         };
     }
-    let written = put_answer(question, numbers, tail, out);
+    let written = put_answer(question, numbers, places, out);
     Answered {
         refusal: 0,
         written: written,
@@ -188,7 +188,7 @@ pub fn reply(
     let places = words::cut(shape, numbers);
     let k = whole::or_else(row.fault, whole::or_else(found, places.fault));
     if k == 0 {
-        return answer(question, numbers, places.tail, out);
+        return answer(question, numbers, places, out);
     }
     if (row.fault == 0) & (found != 0) {
         return fault(k, place, out);

@@ -1,3 +1,5 @@
--- The laws that belong to no one function.
+-- The laws that belong to no one function; `pub` are those that crates above cite.
 mod Laws
 pub mod Contracts
+mod Determined
+mod Refused

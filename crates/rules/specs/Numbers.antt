@@ -1,12 +1,9 @@
 -- A question's numbers, place by place, and what they are read as.
-use Prim.Native.Nat.{ℕ, _+_, _*_}
-use mathlib.Core.Bool.{Bool}
+use Prim.Native.Nat.{ℕ}
 use mathlib.Core.List.{List}
-use lib.IntN.{ℤ, pos}
-use Rattle.whole.specs.Choice.{pick}
+use lib.IntN.{ℤ}
 use Rattle.whole.specs.Runs.{listed}
-use Rattle.whole.specs.Whole.{up, inRange}
-use Rattle.words.specs.Shapes.{number}
+use Rattle.words.specs.Numbers.{number, byteOf}
 use Rattle.units.specs.declared.Kilowatts.{Kilowatts}
 use Rattle.units.specs.declared.Dollars.{Dollars}
 
@@ -16,17 +13,6 @@ kilowatts n i = record { 0 = number n i }
 abbrev pub dollars : List ℤ → ℕ → Dollars
 dollars n i = record { 0 = number n i }
 
--- a number outside 0 to 255 is taken as 255 (desk rule)
-abbrev pub isByte : ℤ → Bool
-isByte z = inRange (pos 0) (pos 255) z
-
-unfoldable pub byteOf : ℤ → ℕ
-byteOf z = pick (isByte z) (up z) 255
-
 -- so many scores
 unfoldable pub scoresIn : List ℤ → ℕ → List ℕ
 scoresIn n many = listed (λ i. byteOf (number n i)) 0 many
-
--- one column of pairs: every second number from a place on, so many of them
-unfoldable pub column : List ℤ → ℕ → ℕ → List ℤ
-column n start many = listed (λ i. number n (start + 2 * i)) 0 many

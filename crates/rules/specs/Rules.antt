@@ -10,9 +10,9 @@ use Rattle.score.specs.Rolling.{hourlyRate}
 use Rattle.bands.specs.Bands.{bandsRefusal, factorAnswer}
 use Rattle.fees.specs.Fees.{feeAnswer, qualityAnswer, energyAnswer}
 use Rattle.fees.specs.Loss.{lossAnswer}
-use Rattle.words.specs.Shapes.{number}
+use Rattle.words.specs.Numbers.{number, byteOf, column}
 use Rattle.words.specs.Replies.{Reply, reply}
-use Rattle.rules.specs.Numbers.{kilowatts, dollars, byteOf, scoresIn, column}
+use Rattle.rules.specs.Numbers.{kilowatts, dollars, scoresIn}
 use Rattle.words.specs.declared.Rule.{Rule}
 use Rattle.words.specs.declared.Rule.the-variants.{Kilowatts, Curve, Score, Rate, Bands, Factor, Fee, Quality, Energy, Loss}
 

@@ -1,10 +1,11 @@
 // The questions about one rule, each answered by a refusal and a few fields: the answer of the library that has the rule.
-ghost use Prim.Native.Nat.{_≤_, _/_};
+ghost use Prim.Native.Nat.{_≤_};
 ghost use mathlib.Core.Path.{_≡_};
 ghost use lib.ListN.{length};
 ghost use Rattle.bands.specs.Bands.{factorAnswer};
 ghost use Rattle.words.specs.Replies.{boxed};
-ghost use Rattle.rules.specs.Numbers.{byteOf, scoresIn, column};
+ghost use Rattle.words.specs.Numbers.{column};
+ghost use Rattle.rules.specs.Numbers.{scoresIn};
 ghost use Rattle.rules.specs.Rules.{pairs, kilowattsReply, curveReply, scoreReply, rateReply, bandsReply, factorReply, feeReply, qualityReply, energyReply, lossReply, ruleReply};
 use bands::Factored;
 use units::Dollars;
@@ -14,19 +15,21 @@ use units::Millihertz;
 use words::Few;
 use words::Rule;
 
+mod few;
+
 fn kilowatts(head: [i64; 12]) -> Few
     ensures { λ r. ⌜ r ≡ boxed (kilowattsReply head) ⌝ }
 {
     let converted = units::to_kilowatts(Megawatts(head[0]));
     let power = converted.power;
-    words::one(converted.refusal, power.0)
+    few::one(converted.refusal, power.0)
 }
 
 fn curve(head: [i64; 12]) -> Few
     ensures { λ r. ⌜ r ≡ boxed (curveReply head) ⌝ }
 {
     let bounds = curve::curve(Millihertz(head[0]));
-    words::two(bounds.refusal, bounds.upper, bounds.lower)
+    few::two(bounds.refusal, bounds.upper, bounds.lower)
 }
 
 fn score(head: [i64; 12]) -> Few
@@ -38,7 +41,7 @@ fn score(head: [i64; 12]) -> Few
         Kilowatts(head[2]),
         Millihertz(head[3]),
     );
-    words::one(scored.refusal, scored.score as i64)
+    few::one(scored.refusal, scored.score as i64)
 }
 
 fn fee(head: [i64; 12]) -> Few
@@ -46,7 +49,7 @@ fn fee(head: [i64; 12]) -> Few
 {
     let charged = fees::fee(head[0], Kilowatts(head[1]));
     let dollars = charged.dollars;
-    words::one(charged.refusal, dollars.0)
+    few::one(charged.refusal, dollars.0)
 }
 
 fn quality(head: [i64; 12]) -> Few
@@ -54,7 +57,7 @@ fn quality(head: [i64; 12]) -> Few
 {
     let charged = fees::quality_part(Dollars(head[0]), Dollars(head[1]), head[2]);
     let dollars = charged.dollars;
-    words::one(charged.refusal, dollars.0)
+    few::one(charged.refusal, dollars.0)
 }
 
 fn loss(head: [i64; 12]) -> Few
@@ -64,17 +67,7 @@ fn loss(head: [i64; 12]) -> Few
     let basic = loss.basic;
     let excess = loss.excess;
     let total = loss.total;
-    words::three(loss.refusal, basic.0, excess.0, total.0)
-}
-
-// A number outside 0 to 255 is taken as 255.
-fn byte_of(z: i64) -> u8
-    ensures { λ r. ⌜ r ≡ byteOf z ⌝ }
-{
-    if whole::within(z, 0, 255) {
-        return z as u8;
-    }
-    255
+    few::three(loss.refusal, basic.0, excess.0, total.0)
 }
 
 fn fill_scores(numbers: &[i64], scores: &mut [u8])
@@ -82,7 +75,7 @@ fn fill_scores(numbers: &[i64], scores: &mut [u8])
 {
     let mut i = 0;
     while i < scores.len() {
-        scores[i] = byte_of(whole::at(numbers, i));
+        scores[i] = words::byte_of(whole::at(numbers, i));
         i += 1;
     }
 }
@@ -93,7 +86,7 @@ fn rate(tail: &[i64]) -> Few
     let mut scores = [0u8; 3600];
     fill_scores(tail, &mut scores);
     let rated = score::hourly_rate(&scores);
-    words::one(rated.refusal, rated.rate as i64)
+    few::one(rated.refusal, rated.rate as i64)
 }
 
 fn energy(head: [i64; 12], tail: &[i64]) -> Few
@@ -103,20 +96,7 @@ fn energy(head: [i64; 12], tail: &[i64]) -> Few
     let charge = head[1];
     let charged = fees::energy_fee(tail, &head[2..6], discharge, charge);
     let dollars = charged.dollars;
-    words::one(charged.refusal, dollars.0)
-}
-
-// One column of pairs.
-fn column(numbers: &[i64], start: usize, run: &mut [i64])
-    requires { ⌜ start ≤ 1 ⌝ }
-    requires { ⌜ length (now run) ≤ 3600 ⌝ }
-    ensures { λ _. ⌜ now (run .exit) ≡ column (now (numbers .entry)) start (length (now (run .entry))) ⌝ }
-{
-    let mut i = 0;
-    while i < run.len() {
-        run[i] = whole::at(numbers, start + 2 * i);
-        i += 1;
-    }
+    few::one(charged.refusal, dollars.0)
 }
 
 // The factor of a rate by n pairs.
@@ -126,8 +106,8 @@ fn found(numbers: &[i64], n: usize, rate: u8) -> Factored
 {
     let mut thresholds = [0i64; 100];
     let mut factors = [0i64; 100];
-    column(numbers, 0, &mut thresholds);
-    column(numbers, 1, &mut factors);
+    words::column(numbers, false, &mut thresholds);
+    words::column(numbers, true, &mut factors);
     bands::factor(&thresholds[..n], &factors[..n], rate)
 }
 
@@ -149,15 +129,15 @@ fn bands(tail: &[i64]) -> Few
     ensures { λ r. ⌜ r ≡ boxed (bandsReply (now (tail .entry))) ⌝ }
 {
     let factored = looked_up(tail, 0);
-    words::none(factored.refusal)
+    few::none(factored.refusal)
 }
 
 fn factor(head: [i64; 12], tail: &[i64]) -> Few
     ensures { λ r. ⌜ r ≡ boxed (factorReply head (now (tail .entry))) ⌝ }
 {
-    let rate = byte_of(head[0]);
+    let rate = words::byte_of(head[0]);
     let factored = looked_up(tail, rate);
-    words::one(factored.refusal, factored.factor)
+    few::one(factored.refusal, factored.factor)
 }
 
 // THE FAMILY: the answer to a question about one rule, by its single numbers and by those after them.

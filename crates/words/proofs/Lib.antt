@@ -1,3 +1,6 @@
--- The laws that belong to no one function.
+-- The laws that belong to no one function; `pub` are those that crates above cite.
 mod Finding
 mod Laws
+pub mod Columns
+pub mod Refusing
+mod Determined

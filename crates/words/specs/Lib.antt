@@ -2,5 +2,6 @@
 pub mod Faults
 pub mod Words
 pub mod Questions
+pub mod Numbers
 pub mod Shapes
 pub mod Replies

@@ -8,13 +8,11 @@ use lib.ListN.{length, getD}
 use Rattle.whole.specs.Choice.{pick, unless}
 use Rattle.whole.specs.Runs.{listed}
 use Rattle.whole.specs.Whole.{up, inRange}
+use Rattle.words.specs.Numbers.{number}
 use Rattle.words.specs.Faults.{tooFew, tooMany}
 use Rattle.words.specs.declared.Shape.{Shape}
 use Rattle.words.specs.declared.Span.{Span}
 use Rattle.words.specs.declared.Places.{Places}
-
-abbrev pub number : List ℤ → ℕ → ℤ
-number n i = getD n i (pos 0)
 
 -- the first twelve numbers, zeros past the end
 unfoldable pub headOf : List ℤ → List ℤ

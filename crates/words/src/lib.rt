@@ -1,10 +1,11 @@
 // The questions of the program `desk`: of each its word, and the shape of its numbers. And the numbers of the faults.
+ghost use Prim.Native.Nat.{_≤_};
 ghost use mathlib.Core.Path.{_≡_};
 ghost use Rattle.words.specs.Questions.{known, singles, singlesThen, singlesGroups, hourShape, questionOf};
-ghost use mathlib.Core.List.{[], _∷_};
-ghost use lib.ListN.{drop};
+ghost use lib.ListN.{length, drop};
+ghost use Rattle.whole.specs.Choice.{pick};
+ghost use Rattle.words.specs.Numbers.{part, byteOf, column};
 ghost use Rattle.words.specs.Shapes.{headOf, cutOf};
-ghost use Rattle.words.specs.Replies.{reply, boxed};
 
 mod codes;
 mod cutting;
@@ -189,46 +190,6 @@ pub struct Few {
     pub values: [i64; 12],
 }
 
-pub fn none(refusal: u8) -> Few
-    ensures { λ r. ⌜ r ≡ boxed (reply refusal []) ⌝ }
-{
-    Few {
-        refusal,
-        count: 0,
-        values: [0; 12],
-    }
-}
-
-pub fn one(refusal: u8, a: i64) -> Few
-    ensures { λ r. ⌜ r ≡ boxed (reply refusal (a ∷ [])) ⌝ }
-{
-    Few {
-        refusal,
-        count: 1,
-        values: [a, 0, 0, 0, 0, 0, 0, 0, 0, 0, 0, 0],
-    }
-}
-
-pub fn two(refusal: u8, a: i64, b: i64) -> Few
-    ensures { λ r. ⌜ r ≡ boxed (reply refusal (a ∷ b ∷ [])) ⌝ }
-{
-    Few {
-        refusal,
-        count: 2,
-        values: [a, b, 0, 0, 0, 0, 0, 0, 0, 0, 0, 0],
-    }
-}
-
-pub fn three(refusal: u8, a: i64, b: i64, c: i64) -> Few
-    ensures { λ r. ⌜ r ≡ boxed (reply refusal (a ∷ b ∷ c ∷ [])) ⌝ }
-{
-    Few {
-        refusal,
-        count: 3,
-        values: [a, b, c, 0, 0, 0, 0, 0, 0, 0, 0, 0],
-    }
-}
-
 // The first twelve of a question's numbers, zeros past their end.
 pub fn head_of(numbers: &[i64]) -> [i64; 12]
     ensures { λ r. ⌜ r ≡ headOf (now (numbers .entry)) ⌝ }
@@ -250,6 +211,51 @@ pub fn rest(numbers: &[i64], at: usize) -> &[i64]
         return &numbers[at..];
     }
     &numbers[..0]
+}
+
+// The numbers from a place on, up to another.
+pub fn part(numbers: &[i64], start: usize, end: usize) -> &[i64]
+    ensures { λ r. ⌜ now r ≡ part (now (numbers .entry)) start end ⌝ }
+{
+    let left = rest(numbers, start);
+    if end <= start {
+        return &left[..0];
+    }
+    let n = end - start;
+    if n <= left.len() {
+        return &left[..n];
+    }
+    left
+}
+
+// A number outside 0 to 255 is taken as 255.
+pub fn byte_of(z: i64) -> u8
+    ensures { λ r. ⌜ r ≡ byteOf z ⌝ }
+{
+    if whole::within(z, 0, 255) {
+        return z as u8;
+    }
+    255
+}
+
+// Where the first number of a column stands.
+fn starts(second: bool) -> usize
+    ensures { λ r. ⌜ r ≡ pick second 1 0 ⌝ }
+    ensures { λ r. ⌜ r ≤ 1 ⌝ }
+{
+    if second { 1 } else { 0 }
+}
+
+// Fills a run with the first or the second number of each pair, zeros past their end.
+pub fn column(pairs: &[i64], second: bool, run: &mut [i64])
+    ensures { λ _. ⌜ now (run .exit) ≡ column (now (pairs .entry)) (pick second 1 0) (length (now (run .entry))) ⌝ }
+{
+    let start = starts(second);
+    let mut i = 0;
+    while i < run.len() {
+        run[i] = whole::at(pairs, start + 2 * i);
+        i += 1;
+    }
 }
 
 // Cuts a question's numbers by their shape.

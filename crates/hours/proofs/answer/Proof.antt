@@ -1,25 +1,30 @@
+-- `hours::answer` meets its contract: the settlement, field by field. Assumes nothing.
 use borrow.Author.Needs.{needs}
+use mathlib.Core.Path.{_≡_}
+use mir.Syntax.{w64}
+use mir.Val.{SFits}
+use mir.Facts.{toZ-ofZ}
+use Rattle.hours.specs.Hours.{hourReply}
 use Rattle.hours.proofs.answer.Statement.{statement}
 use Rattle.hours.proofs.answer.Tie as tie
 
-enum-told : tie.Need-enum-told
-enum-told c = search needs
+settle-requires : tie.Need-settle-requires
+settle-requires c κs = search needs
 
-fields-requires : tie.Need-fields-requires
-fields-requires c κs = search needs
-
-enum-told-2 : tie.Need-enum-told-2
-enum-told-2 c = search needs
-
-fields-requires-2 : tie.Need-fields-requires-2
-fields-requires-2 c κs = search needs
+cast-t12 : tie.Need-cast-t12
+cast-t12 c = search needs
 
 returns : tie.Need-returns
-returns c = rw (c .before .enum-told .given .1) (c .fields .ensures)
-
-returns-2 : tie.Need-returns-2
-returns-2 c = rw (c .before .enum-told2 .given .1) (c .fields2 .ensures)
+unfolding hourReply
+returns c =
+    let r = c .before .before .before .before .before .before .before .before .before .before .before .before .settle in
+    let factor : SFits w64 (r .result .factor) = search needs in
+    let capacity : SFits w64 (r .result .capacity .0) = search needs in
+    let performance : SFits w64 (r .result .performance .0) = search needs in
+    let quality : SFits w64 (r .result .quality .0) = search needs in
+    let energy : SFits w64 (r .result .energy .0) = search needs in
+    let amount : SFits w64 (r .result .amount .0) = search needs in
+    rw (toZ-ofZ (cast-t12 (c .before .before .before .before .before .before)), toZ-ofZ factor, toZ-ofZ capacity, toZ-ofZ performance, toZ-ofZ quality, toZ-ofZ energy, toZ-ofZ amount, r .ensures .0)
 
 pub answer-spec : {M : Type 1} → statement M
-answer-spec =
-    tie.close (tie.spec enum-told fields-requires enum-told-2 fields-requires-2 returns returns-2)
+answer-spec = tie.close (tie.spec settle-requires cast-t12 returns)

@@ -9,14 +9,8 @@ use Rattle.hours.proofs.dreg_terms.Tie as tie
 at-requires : tie.Need-at-requires
 at-requires c κs = search needs
 
-add-at : tie.Need-add-at
-add-at c = search needs
-
 at-requires-2 : tie.Need-at-requires-2
 at-requires-2 c κs = search needs
-
-add-at-2 : tie.Need-add-at-2
-add-at-2 c = search needs
 
 at-requires-3 : tie.Need-at-requires-3
 at-requires-3 c κs = search needs
@@ -33,5 +27,4 @@ returns c =
 
 pub dreg-terms-spec : {M : Type 1} → statement M
 dreg-terms-spec =
-    tie.close
-    (tie.spec at-requires add-at at-requires-2 add-at-2 at-requires-3 dreg-terms-requires returns)
+    tie.close (tie.spec at-requires at-requires-2 at-requires-3 dreg-terms-requires returns)

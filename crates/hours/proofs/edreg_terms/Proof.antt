@@ -10,56 +10,29 @@ use Rattle.hours.proofs.edreg_terms.Tie as tie
 at-requires : tie.Need-at-requires
 at-requires c κs = search needs
 
-add-at : tie.Need-add-at
-add-at c = search needs
-
 at-requires-2 : tie.Need-at-requires-2
 at-requires-2 c κs = search needs
-
-add-at-2 : tie.Need-add-at-2
-add-at-2 c = search needs
 
 at-requires-3 : tie.Need-at-requires-3
 at-requires-3 c κs = search needs
 
-add-at-3 : tie.Need-add-at-3
-add-at-3 c = search needs
-
 at-requires-4 : tie.Need-at-requires-4
 at-requires-4 c κs = search needs
-
-add-at-4 : tie.Need-add-at-4
-add-at-4 c = search needs
 
 at-requires-5 : tie.Need-at-requires-5
 at-requires-5 c κs = search needs
 
-add-at-5 : tie.Need-add-at-5
-add-at-5 c = search needs
-
 at-requires-6 : tie.Need-at-requires-6
 at-requires-6 c κs = search needs
-
-add-at-6 : tie.Need-add-at-6
-add-at-6 c = search needs
 
 at-requires-7 : tie.Need-at-requires-7
 at-requires-7 c κs = search needs
 
-add-at-7 : tie.Need-add-at-7
-add-at-7 c = search needs
-
 at-requires-8 : tie.Need-at-requires-8
 at-requires-8 c κs = search needs
 
-add-at-8 : tie.Need-add-at-8
-add-at-8 c = search needs
-
 at-requires-9 : tie.Need-at-requires-9
 at-requires-9 c κs = search needs
-
-add-at-9 : tie.Need-add-at-9
-add-at-9 c = search needs
 
 at-requires-10 : tie.Need-at-requires-10
 at-requires-10 c κs = search needs
@@ -97,22 +70,13 @@ edreg-terms-spec =
     tie.close
     (tie.spec
     at-requires
-    add-at
     at-requires-2
-    add-at-2
     at-requires-3
-    add-at-3
     at-requires-4
-    add-at-4
     at-requires-5
-    add-at-5
     at-requires-6
-    add-at-6
     at-requires-7
-    add-at-7
     at-requires-8
-    add-at-8
     at-requires-9
-    add-at-9
     at-requires-10
     returns)

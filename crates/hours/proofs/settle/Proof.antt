@@ -1,58 +1,26 @@
--- `hours::settle` meets its contract: by the kind of hour. Assumes nothing.
+-- `hours::settle` meets its contract: the terms, the bands and the readings are those of the cut. Assumes nothing.
 use borrow.Author.Needs.{needs}
-use mathlib.Core.Path.{_≡_, ap, _∙_}
-use mathlib.Core.List.{List}
-use Rattle.hour.specs.declared.Terms.{Terms}
+use mathlib.Core.Path.{_≡_}
 use Rattle.hours.proofs.settle.Statement.{statement}
 use Rattle.hours.proofs.settle.Tie as tie
 
-add-settle-at : tie.Need-add-settle-at
-add-settle-at c = search needs
+part-requires : tie.Need-part-requires
+part-requires c κs = search needs
 
-edreg-terms-requires : tie.Need-edreg-terms-requires
-edreg-terms-requires c κs = search needs
+rest-requires : tie.Need-rest-requires
+rest-requires c κs = search needs
 
-settle-at-requires : tie.Need-settle-at-requires
-settle-at-requires c κs = search needs
+terms-of-requires : tie.Need-terms-of-requires
+terms-of-requires c κs = search needs
 
-same-length : tie.Need-same-length
-same-length c = search needs
+settle-by-requires : tie.Need-settle-by-requires
+settle-by-requires c κs = search needs
 
 returns : tie.Need-returns
 returns c =
-    let s = c .before .before in
-    let t = s .before .before in
-    rw (t .before .if1 .taken) (rw (t .edreg-terms .ensures) at (s .settle-at .ensures))
-
-add-settle-at-2 : tie.Need-add-settle-at-2
-add-settle-at-2 c = search needs
-
-dreg-terms-requires : tie.Need-dreg-terms-requires
-dreg-terms-requires c κs = search needs
-
-settle-at-requires-2 : tie.Need-settle-at-requires-2
-settle-at-requires-2 c κs = search needs
-
-same-length-2 : tie.Need-same-length-2
-same-length-2 c = search needs
-
-returns-2 : tie.Need-returns-2
-returns-2 c =
-    let s = c .before .before in
-    let t = s .before .before in
-    rw (t .before .if1 .left) (rw (t .dreg-terms .ensures) at (s .settle-at2 .ensures))
+    let t = c .before .before in
+    rw (t .terms-of .ensures, t .before .before .part .ensures, t .before .rest .ensures) at (c .settle-by .ensures)
 
 pub settle-spec : {M : Type 1} → statement M
 settle-spec =
-    tie.close
-    (tie.spec
-    add-settle-at
-    edreg-terms-requires
-    settle-at-requires
-    same-length
-    returns
-    add-settle-at-2
-    dreg-terms-requires
-    settle-at-requires-2
-    same-length-2
-    returns-2)
+    tie.close (tie.spec part-requires rest-requires terms-of-requires settle-by-requires returns)

@@ -1,5 +1,5 @@
 -- `question::put_hour` meets its contract: the fields come back out of their box. Assumes nothing.
-use Rattle.hours.specs.Hours.{hourOf}
+use Rattle.hours.specs.Hours.{hourReply}
 use Rattle.question.proofs.Boxes.{Held, held, hour-few}
 use borrow.Author.Needs.{needs}
 use Rattle.question.proofs.put_hour.Statement.{statement}
@@ -9,8 +9,8 @@ answer-requires : tie.Need-answer-requires
 answer-requires c κs = search needs
 
 -- what the box holds
-here : (c : tie.After-answer) → let a = c .before .before .args in Held (c .answer .result) (hourOf (a .hour) (a .numbers .now))
-here c = let a = c .before .before .args in held _ _ (hour-few (a .hour) _) (c .answer .ensures)
+here : (c : tie.After-answer) → let a = c .before .before .args in Held (c .answer .result) (hourReply (a .hour) (a .numbers .now) (a .places))
+here c = let a = c .before .before .args in held _ _ (hour-few (a .hour) _ _) (c .answer .ensures)
 
 put-few-requires : tie.Need-put-few-requires
 put-few-requires c κs = (here (c .before) .most, search needs)

@@ -4,7 +4,7 @@ use mathlib.Core.Path.{sym, ap₂, _∙_}
 use mathlib.Core.List.{List}
 use lib.IntN.{ℤ}
 use Rattle.bands.specs.Bands.{factorAnswer}
-use Rattle.rules.proofs.Laws.{front}
+use Rattle.words.proofs.Columns.{front}
 use Rattle.rules.proofs.found.Statement.{statement}
 use Rattle.rules.proofs.found.Tie as tie
 
@@ -24,13 +24,13 @@ array-share-prefix-thresholds : tie.Need-array-share-prefix-thresholds
 array-share-prefix-thresholds c = search needs
 
 slice-aggregate-factor : tie.Need-slice-aggregate-factor
-slice-aggregate-factor c = let s = c .before .before .before .before .before .before .before in sym (front (s .args .numbers .now) 0 _ _ (s .pre) (c .before .before .before .before .before .column .ensures) .0)
+slice-aggregate-factor c = let s = c .before .before .before .before .before .before .before in sym (front (s .args .numbers .now) 0 _ _ 100 (s .pre) (c .before .before .before .before .before .column .ensures) .long)
 
 array-share-prefix-factors : tie.Need-array-share-prefix-factors
 array-share-prefix-factors c = search needs
 
 slice-aggregate-factor-2 : tie.Need-slice-aggregate-factor-2
-slice-aggregate-factor-2 c = let s = c .before .before .before .before .before .before .before .before in sym (front (s .args .numbers .now) 1 _ _ (s .pre) (c .before .before .before .column2 .ensures) .0)
+slice-aggregate-factor-2 c = let s = c .before .before .before .before .before .before .before .before in sym (front (s .args .numbers .now) 1 _ _ 100 (s .pre) (c .before .before .before .column2 .ensures) .long)
 
 factor-requires : tie.Need-factor-requires
 factor-requires c κs = search needs
@@ -40,8 +40,8 @@ returns c =
     let s = c .before .before .before .before .before .before .before .before .before in
     let a = s .args in
     let n = a .numbers .now in
-    let thresholds = front n 0 _ (a .n) (s .pre) (c .before .before .before .before .before .before .before .column .ensures) .1 in
-    let factors = front n 1 _ (a .n) (s .pre) (c .before .before .before .before .column2 .ensures) .1 in
+    let thresholds = front n 0 _ (a .n) 100 (s .pre) (c .before .before .before .before .before .before .before .column .ensures) .is in
+    let factors = front n 1 _ (a .n) 100 (s .pre) (c .before .before .before .before .column2 .ensures) .is in
     c .factor .ensures ∙ ap₂ (λ (t f : List ℤ). factorAnswer t f (a .rate)) thresholds factors
 
 pub found-spec : {M : Type 1} → statement M

@@ -4,8 +4,9 @@ use Prim.Native.Nat.{_+_, _/_, _<_}
 use native.Mathlib.Omega.{arith}
 use mathlib.Core.Path.{sym}
 use lib.ListN.{length}
-use Rattle.rules.specs.Numbers.{column}
-use Rattle.rules.proofs.Laws.{length-column, too-many}
+use Rattle.words.specs.Numbers.{column}
+use Rattle.words.proofs.Columns.{length-column}
+use Rattle.rules.proofs.Laws.{too-many}
 use Rattle.rules.proofs.looked_up.Statement.{statement}
 use Rattle.rules.proofs.looked_up.Tie as tie
 

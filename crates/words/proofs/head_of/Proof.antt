@@ -8,7 +8,8 @@ use mir.Syntax.{w64}
 use Rattle.whole.specs.Runs.{listed, filled}
 use Rattle.whole.proofs.Runs.{filled-next, filled-all}
 use Rattle.whole.proofs.Signed.{back}
-use Rattle.words.specs.Shapes.{number, headOf}
+use Rattle.words.specs.Numbers.{number}
+use Rattle.words.specs.Shapes.{headOf}
 use Rattle.words.proofs.head_of.Statement.{statement}
 use Rattle.words.proofs.head_of.Tie as tie
 

@@ -9,8 +9,8 @@ use Rattle.question.specs.Frames.{hourFrame}
 use Rattle.question.proofs.frames.of_hour.Statement.{statement}
 use Rattle.question.proofs.frames.of_hour.Tie as tie
 
-slice-aggregate-settle : tie.Need-slice-aggregate-settle
-slice-aggregate-settle c = search needs
+rest-requires : tie.Need-rest-requires
+rest-requires c κs = search needs
 
 settle-requires : tie.Need-settle-requires
 settle-requires c κs = search needs
@@ -32,16 +32,16 @@ unfolding hourFrame
 returns c =
     let d = c .before .before in
     let b = d .before in
-    let t = b .before .before .before in
+    let t = b .before .before in
     let r = t .settle in
     let amount : SFits w64 (r .result .amount .0) = search needs in
-    rw (c .framed .ensures, back w64 (b .at .ok) (b .at .ensures), back w64 (d .at2 .ok) (d .at2 .ensures), toZ-ofZ amount, r .ensures .0)
+    rw (c .framed .ensures, back w64 (b .at .ok) (b .at .ensures), back w64 (d .at2 .ok) (d .at2 .ensures), toZ-ofZ amount, r .ensures .0, t .before .before .rest .ensures)
 
 pub of-hour-spec : {M : Type 1} → statement M
 of-hour-spec =
     tie.close
     (tie.spec
-    slice-aggregate-settle
+    rest-requires
     settle-requires
     cast-framed
     at-requires

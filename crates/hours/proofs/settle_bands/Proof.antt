@@ -1,0 +1,80 @@
+-- `hours::settle_bands` meets its contract: the front of each column is lent to the hour. Assumes nothing.
+use borrow.Author.Needs.{needs}
+use mathlib.Core.Path.{_≡_, sym, ap, ap₂, _∙_}
+use mathlib.Core.List.{List}
+use lib.IntN.{ℤ}
+use lib.ListN.{length}
+use Rattle.hour.specs.Hour.{hourOf, scoresLeft}
+use Rattle.words.specs.Numbers.{column}
+use Rattle.words.proofs.Columns.{Front, front}
+use Rattle.hours.proofs.settle_bands.Statement.{statement}
+use Rattle.hours.proofs.settle_bands.Tie as tie
+
+slice-aggregate-column : tie.Need-slice-aggregate-column
+slice-aggregate-column c = search needs
+
+column-requires : tie.Need-column-requires
+column-requires c κs = search needs
+
+slice-aggregate-column-2 : tie.Need-slice-aggregate-column-2
+slice-aggregate-column-2 c = search needs
+
+column-requires-2 : tie.Need-column-requires-2
+column-requires-2 c κs = search needs
+
+pairs-in-requires : tie.Need-pairs-in-requires
+pairs-in-requires c κs = search needs
+
+-- the front of each column
+thresholds : (c : tie.After-pairs-in) → Front (c .before .before .before .before .before .before .before .before .args .bands .now) 0 (c .before .before .before .before .before .column .last .1 .1 .0) (c .pairs-in .result)
+thresholds c = front _ _ _ _ 100 (c .pairs-in .ensures .1) (c .before .before .before .before .before .column .ensures)
+
+factors : (c : tie.After-pairs-in) → Front (c .before .before .before .before .before .before .before .before .args .bands .now) 1 (c .before .before .column2 .last .1 .1 .0) (c .pairs-in .result)
+factors c = front _ _ _ _ 100 (c .pairs-in .ensures .1) (c .before .before .column2 .ensures)
+
+array-share-prefix-thresholds : tie.Need-array-share-prefix-thresholds
+array-share-prefix-thresholds c = search needs
+
+slice-aggregate-hour : tie.Need-slice-aggregate-hour
+slice-aggregate-hour c = sym (thresholds (c .before) .long)
+
+array-share-prefix-factors : tie.Need-array-share-prefix-factors
+array-share-prefix-factors c = search needs
+
+slice-aggregate-hour-2 : tie.Need-slice-aggregate-hour-2
+slice-aggregate-hour-2 c = sym (factors (c .before .before) .long)
+
+hour-requires : tie.Need-hour-requires
+hour-requires c κs = search needs
+
+same-length : tie.Need-same-length
+same-length c = search needs
+
+returns : tie.Need-returns
+returns c =
+    let h = c .before .before in
+    let p = h .before .before .before .before in
+    let a = p .before .before .before .before .before .before .before .before .args in
+    let bands = a .bands .now in
+    let t = thresholds p .is ∙ ap (column bands 0) (p .pairs-in .ensures .0) in
+    let g = factors p .is ∙ ap (column bands 1) (p .pairs-in .ensures .0) in (
+      h .hour .ensures .0 ∙ ap₂ (λ (t g : List ℤ). hourOf (a .powers .now) (a .frequencies .now) (length (a .scores .now)) (a .terms) t g) t g,
+      h .hour .ensures .1 ∙ ap₂ (λ (t g : List ℤ). scoresLeft (a .powers .now) (a .frequencies .now) (a .terms) t g (a .scores .now)) t g,
+    )
+
+pub settle-bands-spec : {M : Type 1} → statement M
+settle-bands-spec =
+    tie.close
+    (tie.spec
+    slice-aggregate-column
+    column-requires
+    slice-aggregate-column-2
+    column-requires-2
+    pairs-in-requires
+    array-share-prefix-thresholds
+    slice-aggregate-hour
+    array-share-prefix-factors
+    slice-aggregate-hour-2
+    hour-requires
+    same-length
+    returns)
