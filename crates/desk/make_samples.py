@@ -43,6 +43,16 @@ settled, scores = model.hour(powers, frequencies, [0] * 3600, terms, model.THRES
 columns = "".join(f"{p} {f}\n" for p, f in zip(powers, frequencies))
 hour = f"{words(CAPACITY, CLEARING, PERFORMANCE)}\n{len(model.LIST_S)} {words(*bands)}\n{columns}"
 
+# ---- the same hour moved by a transfer plan, so that its scores are the same
+
+DISCHARGE, CHARGE, TARGETS = 210000, 60000, [1000, 3000, -2000, 0, 4000]
+moved = [p + t for p, t in zip(powers, model.transfers(TARGETS))]
+moved_terms = (CAPACITY, CLEARING, PERFORMANCE, DISCHARGE, CHARGE, TARGETS)
+moved_settled, moved_scores = model.hour(moved, frequencies, [0] * 3600, moved_terms, model.THRESHOLDS, model.FACTORS)
+assert moved_scores == scores
+moved_columns = "".join(f"{p} {f}\n" for p, f in zip(moved, frequencies))
+moved_hour = f"{words(CAPACITY, CLEARING, PERFORMANCE, DISCHARGE, CHARGE, *TARGETS)}\n{len(model.LIST_S)} {words(*bands)}\n{moved_columns}"
+
 with open(os.path.join(ROOT, "samples/hour"), "w") as out:
     out.write("# A dReg hour of 10,000 kW at 440 and 350 dollars a MW, with list S; then a line a second: the power of second t in kW and the frequency of\n")
     out.write("# second t-1 in mHz.\n")
@@ -68,10 +78,14 @@ asked = [
     ("energy 200000 50000 5000 -5000 0 5000 " + "5000 " * 3600, words(*model.energy([5000] * 3600, [5000, -5000, 0, 5000], 200000, 50000))),
     ("loss 120000 84000 22800 40000", words(0, 151200, 100800, 252000)),
     ("dreg " + hour, words(*settled)),
-    ("edreg " + words(CAPACITY, CLEARING, PERFORMANCE, 0, 0, 0, 0, 0, 0, 0) + hour[len(words(CAPACITY, CLEARING, PERFORMANCE)) :], words(*settled)),
+    ("edreg " + moved_hour, words(*moved_settled)),
     ("dreg_scores " + hour, words(0, *scores)),
+    ("edreg_scores " + moved_hour, words(0, *scores)),
     ("frame 0 31 0 0", frame(0, 31, 0, 0)),
     ("dreg_frame 12 14 " + hour, frame(1, 12, 14, settled[7])),
+    ("edreg_frame 12 15 " + moved_hour, frame(1, 12, 15, moved_settled[7])),
+    # a capacity of 0 is refused before the day is looked at
+    ("edreg_frame 300 0 " + "0 " * 10 + "0 " + "0 " * 7200, "2"),
     ("frame 6 0 0 0", "13"),
     ("frame 1 256 0 0", "6"),
 ]

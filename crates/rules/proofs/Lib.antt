@@ -1,3 +1,4 @@
 -- The laws that belong to no one function.
 mod Laws
 mod Determined
+mod Refused

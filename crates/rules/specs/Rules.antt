@@ -76,3 +76,16 @@ ruleReply Fee n t = feeReply n
 ruleReply Quality n t = qualityReply n
 ruleReply Energy n t = energyReply n t
 ruleReply Loss n t = lossReply n
+
+-- how many fields its answer has
+abbrev pub fieldCount : Rule → ℕ
+fieldCount Kilowatts = 1
+fieldCount Curve = 2
+fieldCount Score = 1
+fieldCount Rate = 1
+fieldCount Bands = 0
+fieldCount Factor = 1
+fieldCount Fee = 1
+fieldCount Quality = 1
+fieldCount Energy = 1
+fieldCount Loss = 3
