@@ -10,4 +10,4 @@ pub mod Written
 pub mod Separators
 pub mod Contracts
 mod Determined
-mod Refused
+mod RefusedKeeps

@@ -1,4 +1,4 @@
 -- The laws that belong to no one function; `pub` are those that crates above cite.
 pub mod HourLaws
 mod Determined
-mod Refused
+mod RefusedKeeps

@@ -6,4 +6,4 @@ mod LineLaws
 pub mod Contracts
 pub mod Posting
 mod Determined
-mod Refused
+mod RefusedKeeps

@@ -2,4 +2,4 @@
 mod Laws
 pub mod Contracts
 mod Determined
-mod Refused
+mod RefusedKeeps

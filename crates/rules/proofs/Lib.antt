@@ -1,4 +1,4 @@
 -- The laws that belong to no one function.
 mod Laws
 mod Determined
-mod Refused
+mod RefusedKeeps
