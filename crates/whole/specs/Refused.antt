@@ -1,6 +1,6 @@
 -- Demand 1, "a refusal gives its number only and changes neither the ledger nor any lent run of numbers", as a statement about a contract: `Post` is the contract as
 -- the toolchain reads it off the source (the module `Reads` of a function), so that a contract that is weakened later no longer has its line in
--- proofs/Refused.antt.
+-- proofs/RefusedKeeps.antt.
 use Prim.Native.Nat.{ℕ}
 use mathlib.Core.Path.{_≡_}
 use mathlib.Core.List.{List}
