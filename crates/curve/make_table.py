@@ -27,7 +27,7 @@ def percent(bound, f):
 
 
 print("// The power curve: 501 pairs, upper and lower percent of capacity for each millihertz from 59,750 to 60,250. make_table.py prints this file.")
-print("pub const PAIRS: [i64; 1_002] = [")
+print("pub const PAIRS: [i8; 1_002] = [")
 for f in range(59750, 60251):
     print(f"    {percent(1, f)}, // {f} upper")
     print(f"    {percent(2, f)}, // {f} lower")

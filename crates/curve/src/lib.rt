@@ -32,8 +32,8 @@ fn bounds_at(frequency: Millihertz) -> Bounds
 {
     let pairs = pairs();
     let k = 2 * place(frequency);
-    let upper = pairs[k];
-    let lower = pairs[k + 1];
+    let upper = pairs[k] as i64;
+    let lower = pairs[k + 1] as i64;
     Bounds {
         refusal: 0,
         upper,
@@ -56,7 +56,8 @@ pub fn place(frequency: Millihertz) -> usize
 }
 
 // The table: the upper and the lower bound of each millihertz from 59,750 on, one pair after the other. A run of seconds makes it once.
-pub fn pairs() -> [i64; 1002]
+// In bytes a pair's place takes no shift.
+pub fn pairs() -> [i8; 1002]
     ensures { λ r. ⌜ r ≡ pairsOf ⌝ }
 {
     table::PAIRS

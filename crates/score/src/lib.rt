@@ -286,7 +286,7 @@ fn fill(
 }
 
 fn fill_by(
-    pairs: &[i64],
+    pairs: &[i8],
     powers: &[i64],
     frequencies: &[i64],
     transfers: &[i64],
@@ -319,7 +319,7 @@ fn fill_by(
 
 // `judged_by`, with the curve's table at hand.
 fn judged_in(
-    pairs: &[i64],
+    pairs: &[i8],
     power: Kilowatts,
     transfer: Kilowatts,
     capacity: Kilowatts,
@@ -332,8 +332,8 @@ fn judged_in(
     ensures { λ r. ⌜ r ≡ judgedBy power transfer capacity frequency ⌝ }
 {
     let k = 2 * curve::place(frequency);
-    let upper = pairs[k];
-    let lower = pairs[k + 1];
+    let upper = pairs[k] as i64;
+    let lower = pairs[k + 1] as i64;
     by_bounds(power, transfer, capacity, inverse, upper, lower)
 }
 

@@ -4,11 +4,11 @@ use mathlib.Core.Path.{_≡_, _∙_}
 use native.Mathlib.Omega.{arith}
 use lib.IntN.{pos}
 use lib.ListN.{getD}
-use mir.Syntax.{w64}
+use mir.Syntax.{w8, w64}
 use mir.Val.{SFits, toZ, ofZ}
 use mir.Facts.{toZ-ofZ}
 use borrow.Author.Needs.{needs}
-use Rattle.whole.proofs.Signed.{inside}
+use Rattle.whole.proofs.Signed.{inside, within-fits}
 use Rattle.whole.proofs.Sums.{in-within}
 use Rattle.curve.specs.Curve.{upperAt, lowerAt}
 use Rattle.curve.proofs.Limits.{place-within, pair-inside, upper-in, lower-in, upper-within, lower-within, bounds-ordered}
@@ -29,33 +29,40 @@ place-small c = let p = c .place .ensures in omega (arith, place-within (c .befo
 mul-k : tie.Need-mul-k
 mul-k c = let p = place-small c in record { fits = omega arith }
 
-mul-upper : tie.Need-mul-upper
-mul-upper c = let p = place-small c in record { fits = omega arith }
-
 shared-slice-copy-out-upper : tie.Need-shared-slice-copy-out-upper
 shared-slice-copy-out-upper c = omega (arith, pair-inside _ (c .before .pre .1 .0) (c .place .ensures))
 
 add-lower : tie.Need-add-lower
 add-lower c = let p = place-small (c .before) in record { fits = omega arith }
 
-mul-lower : tie.Need-mul-lower
-mul-lower c = let p = place-small (c .before) in record { fits = omega arith }
-
 shared-slice-copy-out-lower : tie.Need-shared-slice-copy-out-lower
 shared-slice-copy-out-lower c = pair-inside _ (c .before .before .pre .1 .0) (c .before .place .ensures)
 
-upper-fits : (c : tie.After-upper) → SFits w64 (getD (c .before .before .args .pairs .now) (2 * c .before .place .result) (pos 0))
+upper-fits : (c : tie.After-upper) → SFits w8 (getD (c .before .before .args .pairs .now) (2 * c .before .place .result) (pos 0))
 upper-fits c = search needs
 
-lower-fits : (c : tie.After-lower) → SFits w64 (getD (c .before .before .before .args .pairs .now) (2 * c .before .before .place .result + 1) (pos 0))
+lower-fits : (c : tie.After-lower) → SFits w8 (getD (c .before .before .before .args .pairs .now) (2 * c .before .before .place .result + 1) (pos 0))
 lower-fits c = search needs
 
--- the two bounds, as they are handed on
-upper-is : (c : tie.After-upper) → toZ w64 (ofZ w64 (getD (c .before .before .args .pairs .now) (2 * c .before .place .result) (pos 0))) ≡ upperAt (c .before .before .args .frequency .0)
-upper-is c = toZ-ofZ (upper-fits c) ∙ upper-in _ (c .before .before .pre .1 .0) (c .before .place .ensures)
+-- the two bounds, as they are read
+upper-read : (c : tie.After-upper) → toZ w8 (ofZ w8 (getD (c .before .before .args .pairs .now) (2 * c .before .place .result) (pos 0))) ≡ upperAt (c .before .before .args .frequency .0)
+upper-read c = toZ-ofZ (upper-fits c) ∙ upper-in _ (c .before .before .pre .1 .0) (c .before .place .ensures)
 
-lower-is : (c : tie.After-lower) → toZ w64 (ofZ w64 (getD (c .before .before .before .args .pairs .now) (2 * c .before .before .place .result + 1) (pos 0))) ≡ lowerAt (c .before .before .before .args .frequency .0)
-lower-is c = toZ-ofZ (lower-fits c) ∙ lower-in _ (c .before .before .before .pre .1 .0) (c .before .before .place .ensures)
+lower-read : (c : tie.After-lower) → toZ w8 (ofZ w8 (getD (c .before .before .before .args .pairs .now) (2 * c .before .before .place .result + 1) (pos 0))) ≡ lowerAt (c .before .before .before .args .frequency .0)
+lower-read c = toZ-ofZ (lower-fits c) ∙ lower-in _ (c .before .before .before .pre .1 .0) (c .before .before .place .ensures)
+
+cast-upper : tie.Need-cast-upper
+cast-upper c = rw (upper-read c) (within-fits w64 tt (upper-within _))
+
+cast-lower : tie.Need-cast-lower
+cast-lower c = rw (lower-read c) (within-fits w64 tt (lower-within _))
+
+-- as they are handed on
+upper-is : (c : tie.After-upper) → toZ w64 (ofZ w64 (toZ w8 (ofZ w8 (getD (c .before .before .args .pairs .now) (2 * c .before .place .result) (pos 0))))) ≡ upperAt (c .before .before .args .frequency .0)
+upper-is c = toZ-ofZ (cast-upper c) ∙ upper-read c
+
+lower-is : (c : tie.After-lower) → toZ w64 (ofZ w64 (toZ w8 (ofZ w8 (getD (c .before .before .before .args .pairs .now) (2 * c .before .before .place .result + 1) (pos 0))))) ≡ lowerAt (c .before .before .before .args .frequency .0)
+lower-is c = toZ-ofZ (cast-lower c) ∙ lower-read c
 
 by-bounds-requires : tie.Need-by-bounds-requires
 by-bounds-requires c κs =
@@ -74,10 +81,10 @@ judged-in-spec =
     (tie.spec
     place-requires
     mul-k
-    mul-upper
     shared-slice-copy-out-upper
+    cast-upper
     add-lower
-    mul-lower
     shared-slice-copy-out-lower
+    cast-lower
     by-bounds-requires
     returns)
