@@ -423,6 +423,21 @@ bands("sixteen", falling[1:], factors[1:])
 bands("none", [], [])
 bands("a factor short", falling[1:], factors[1:-1])
 bands("a threshold short", falling[2:], factors[1:])
+line("records")
+
+
+def records(label, pairs, rate):
+    thresholds, factors = [t for t, _ in pairs], [f for _, f in pairs]
+    line(label, rate, 0 if bands_fit(thresholds, factors) else 5, *factor(thresholds, factors, rate))
+
+
+for r in (100, 95, 94, 70, 69, 0, 101):
+    records("list S", LIST_S, r)
+records("last not 0", LIST_S[:6], 95)
+records("none", [], 95)
+records("equal thresholds", [(95, 10), (95, 8)] + LIST_S[2:], 94)
+records("seventeen", list(zip(falling, factors)), 95)
+records("sixteen", list(zip(falling, factors))[:15] + [(0, -5)], 69)
 
 
 # ---- the fees of an hour

@@ -8,6 +8,7 @@ mod ledger_cases;
 mod month_cases;
 mod ramp_cases;
 mod readings;
+mod records_cases;
 mod refused_cases;
 mod score_cases;
 mod text;
@@ -28,6 +29,7 @@ fn main() {
     score_cases::rates();
     bands_cases::rates();
     bands_cases::lists();
+    records_cases::records();
     fees_cases::of_capacity();
     fees_cases::quality_parts();
     fees_cases::of_energy();
