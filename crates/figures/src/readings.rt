@@ -30,21 +30,9 @@ pub(crate) fn score_stretch(run: &mut [u8], from: usize, to: usize, score: u8) {
     }
 }
 
-<<<<<<< HEAD
 // The planned transfer of each second of an hour.
 pub(crate) fn follow(run: &mut [i64], targets: &[i64]) {
     ramp::plan(targets, run);
-=======
-// The planned transfer of each second.
-pub(crate) fn follow(run: &mut [i64], targets: &[i64]) {
-    let mut i = 0;
-    while i < run.len() {
-        let planned = ramp::transfer_at(targets, i);
-        let power = planned.0;
-        run[i] = power;
-        i += 1;
-    }
->>>>>>> cfe9212 (No program crate has a public function)
 }
 
 // A frequency from 59,700 to 60,300.
