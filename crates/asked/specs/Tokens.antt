@@ -76,7 +76,7 @@ after token b = pick (eqb b lineEnd) Between (pick (eqb b hash || isComment toke
 
 -- ---- a token that has ended
 
--- "If its value is outside -2^63 .. 2^63-1 the question has fault 102"; "anything else: fault 105"
+-- "a value outside -2^63 to 2^63 - 1 is fault 102. Any other token is fault 105."
 abbrev pub faultOf : Token → ℕ
 faultOf Between = notNumber
 faultOf Comment = notNumber
