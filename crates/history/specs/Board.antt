@@ -41,7 +41,7 @@ module _ {F M B : Type 0} (R : Rules F M B) where
   abbrev pub feesFit : Board F M B → Bool
   feesFit b = foldl (λ t f. t && eqb (R .checkFee f (b .fee f)) 0) (R .opens) (R .fees)
 
-  -- what some run of calls from a fresh month hands back (proofs/Reach.antt shows that it is just this)
+  -- what some run of calls from a fresh month hands back: proofs/Reach.antt shows that it is just this, of a board that has a mark and an item for each place
   unfoldable pub wellFormed : Board F M B → Bool
   wellFormed b = feesFit b && allTo (R .places) (fitsAt b)
 

@@ -12,7 +12,7 @@ use contract.Lifetimes.{Lfts}
 use borrow.Fn.Kinds.{Dens, endedOf}
 use borrow.Author.Tests.{eqb-true, eqb-false}
 use denote.Triple.Clauses.{AtExit}
-use denote.Ref.{now}
+use denote.Ref.{RefT, now}
 use Rattle.whole.specs.Choice.{pick, unless, orElse}
 use Rattle.whole.specs.Whole.{minus, Within, inRange}
 use Rattle.whole.proofs.Choice.{by-test}
@@ -28,7 +28,7 @@ use Rattle.month.specs.declared.Month.{Month}
 use Rattle.month.specs.declared.Booked.{Booked}
 use Rattle.month.proofs.Demand.{Answers, booked, monthLedger, refused-same, demand3}
 use Rattle.hour.specs.Hour.{hourRefusal, settledOf, answerOf, refusedOf, hourOf}
-use Rattle.hour.specs.Joint.{joined, postedOf}
+use Rattle.hour.specs.Joint.{joined, postedOf, jointOf}
 use Rattle.hour.specs.declared.Terms.{Terms}
 use Rattle.hour.specs.declared.Settlement.{Settlement}
 use Rattle.hour.specs.declared.Joined.{Joined}
@@ -83,6 +83,17 @@ joint-called κs b j e met =
       posts = joint-posts κs b j e met;
     }
 
+-- and there is one for anything that is handed in: the definitions' own answer
+abbrev lend : {X : Type 0} → X → RefT X
+lend x = record { ptr = (0, 0); name = 0; now = x }
+
+pub joint-made : (powers frequencies : List ℤ) (t : Terms) (thresholds factors : List ℤ) (m : Month) (d x : ℕ)
+    → JointCalled (hourOf powers frequencies 3600 t thresholds factors) m d x (jointOf powers frequencies t thresholds factors m d x)
+joint-made powers frequencies t ts fs m d x =
+    let κs : Lfts 4 = ([], ([], ([], ([], tt)))) in
+    let given : Dens κs joint-kinds.ps = (lend powers, (lend frequencies, (t, (lend ts, (lend fs, (m, (d, (x, tt)))))))) in
+    joint-called κs given (jointOf powers frequencies t ts fs m d x) given refl
+
 -- what happened in a run, newest first
 pub data Event : Type 0 where
   -- a call on the ledger and the number that it was answered: by hand, or the post of an accepted hour by the joint call
@@ -91,16 +102,16 @@ pub data Event : Type 0 where
   turned : Month → ℕ → Joined → Event
 
 -- the ledger's history is told by the calls on it alone
-abbrev pub historyOf : List Event → List (Entry Fee Item)
-historyOf [] = []
-historyOf (made e ∷ es) = e ∷ historyOf es
-historyOf (turned m k answer ∷ es) = historyOf es
+abbrev pub callsOf : List Event → List (Entry Fee Item)
+callsOf [] = []
+callsOf (made e ∷ es) = e ∷ callsOf es
+callsOf (turned m k answer ∷ es) = callsOf es
 
--- each joint call whose hour was refused was answered the hour's number only, with the month that was handed in
+-- each joint call whose hour was refused was answered the hour's number only, which is not 0, with the month that was handed in
 abbrev pub TurnedAway : List Event → Type 0
 TurnedAway [] = Unit {0}
 TurnedAway (made e ∷ es) = TurnedAway es
-TurnedAway (turned m k answer ∷ es) = (answer ≡ refusedBeside m k) × TurnedAway es
+TurnedAway (turned m k answer ∷ es) = (k ≡ 0 → ⊥) × (answer ≡ refusedBeside m k) × TurnedAway es
 
 abbrev pub postOf : Settlement → ℕ → ℕ → Call Fee Item
 postOf worked d x = Call.post d x (amountItem (worked .amount .0))
@@ -116,23 +127,23 @@ pub data JointRun (days : ℕ) : List Event → Month → Type 0 where
   by-refused : (es : List Event) (worked : Settlement) (m : Month) (d x : ℕ) (j : Joined) → JointRun days es m → JointCalled worked m d x j → (worked .refusal ≡ 0 → ⊥)
       → JointRun days (turned m (worked .refusal) j ∷ es) (j .month)
 
-pub by-posts : (days : ℕ) (es : List Event) (m : Month) → JointRun days es m → Run monthLedger days (historyOf es) m
+pub by-posts : (days : ℕ) (es : List Event) (m : Month) → JointRun days es m → Run monthLedger days (callsOf es) m
 by-posts days _ m (opens _ o) = opened m o
-by-posts days _ n (by-hand es m c k _ run a) = called (historyOf es) m c k n (by-posts days es m run) a
+by-posts days _ n (by-hand es m c k _ run a) = called (callsOf es) m c k n (by-posts days es m run) a
 by-posts days _ _ (by-joint es worked m d x j run c z) =
-    called (historyOf es) m (postOf worked d x) (j .hour .refusal) (j .month) (by-posts days es m run) (ap booking (c .posts) ∙ posted-is worked m d x z (c .inside))
+    called (callsOf es) m (postOf worked d x) (j .hour .refusal) (j .month) (by-posts days es m run) (ap booking (c .posts) ∙ posted-is worked m d x z (c .inside))
 by-posts days _ _ (by-refused es worked m d x j run c f) =
-    subst (Run monthLedger days (historyOf es)) (sym (ap (λ (y : Joined). y .month) (c .posts ∙ turned-is worked m d x f))) (by-posts days es m run)
+    subst (Run monthLedger days (callsOf es)) (sym (ap (λ (y : Joined). y .month) (c .posts ∙ turned-is worked m d x f))) (by-posts days es m run)
 
 turned-away : (days : ℕ) (es : List Event) (m : Month) → JointRun days es m → TurnedAway es
 turned-away days _ m (opens _ o) = tt
 turned-away days _ n (by-hand es m c k _ run a) = turned-away days es m run
 turned-away days _ _ (by-joint es worked m d x j run c z) = turned-away days es m run
-turned-away days _ _ (by-refused es worked m d x j run c f) = (c .posts ∙ turned-is worked m d x f, turned-away days es m run)
+turned-away days _ _ (by-refused es worked m d x j run c f) = (f, c .posts ∙ turned-is worked m d x f, turned-away days es m run)
 
 -- the demand, over runs that mix the joint call with calls by hand
-pub joint-demand3 : (days : ℕ) (es : List Event) (m : Month) → JointRun days es m → Demand3 monthLedger days (historyOf es) m × TurnedAway es
-joint-demand3 days es m run = (demand3 days (historyOf es) m (by-posts days es m run), turned-away days es m run)
+pub joint-demand3 : (days : ℕ) (es : List Event) (m : Month) → JointRun days es m → Demand3 monthLedger days (callsOf es) m × TurnedAway es
+joint-demand3 days es m run = (demand3 days (callsOf es) m (by-posts days es m run), turned-away days es m run)
 
 -- ---- there are such runs: from every month that opens, for every list of hours worked out, each with the day and the hour to post it on
 

@@ -23,8 +23,8 @@ settle-refused-keeps κs a x s p f =
     let k = ap (λ (y : Settlement). y .refusal) (p .0) in
     (p .0 ∙ refused-is _ (λ z. f (k ∙ z)) ∙ sym (ap refusedOf k), p .1 ∙ kept-old _ _ (λ z. f (k ∙ z)))
 
-answer-refused-bare : RefusedBare 1 answer-kinds.ps answer-kinds.r (λ κs x. x .refusal) (λ κs a k. boxed (reply k (replicate 7 (pos 0)))) answer.Post
+answer-refused-keeps : RefusedBare 1 answer-kinds.ps answer-kinds.r (λ κs x. x .refusal) (λ κs a k. boxed (reply k (replicate 7 (pos 0)))) answer.Post
 unfolding hourReply refusedOf
-answer-refused-bare κs a x s p f =
+answer-refused-keeps κs a x s p f =
     let k = ap (λ (y : Few). y .refusal) p in
     p ∙ ap (λ (y : Settlement). boxed (fieldsOf y)) (refused-is _ (λ z. f (k ∙ z))) ∙ sym (ap (λ n. boxed (reply n (replicate 7 (pos 0)))) k)

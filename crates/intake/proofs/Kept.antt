@@ -6,10 +6,10 @@ use mathlib.Core.Bool.{true, false, not}
 use mathlib.Core.List.{List, [], _∷_, _++_}
 use native.Mathlib.Omega.{arith}
 use lib.Dec.{leb, eqb, ltb}
-use lib.IntN.{ℤ, pos, _-ℤ_}
+use lib.IntN.{ℤ, _-ℤ_}
 use lib.ListN.{length}
 use borrow.Author.Tests.{leb-true, eqb-true}
-use Rattle.whole.specs.Whole.{inRange}
+use Rattle.whole.specs.Whole.{Within, summed}
 use Rattle.whole.proofs.Choice.{by-test, passed, and-both}
 use Rattle.history.specs.Rules.{Call}
 use Rattle.history.specs.Board.{fresh, wellFormed, runsFit, ledgerRefusal, ruledIn, handedIn, refusalOf, nextOf, totalOn}
@@ -18,14 +18,14 @@ use Rattle.history.proofs.Steps.{left-stays}
 use Rattle.board.specs.Board.{Fee, Item, isDays, monthRules}
 use Rattle.month.specs.Month.{boardOf, monthOf, answerOf}
 use Rattle.month.proofs.Sound.{month-sound}
-use Rattle.month.proofs.Sums.{all-summed}
+use Rattle.month.proofs.Sums.{all-summed, all-within, fee-within}
 use Rattle.frame.specs.Kinds.{openKind}
 use Rattle.frame.specs.Frame.{readingOf}
 use Rattle.frame.specs.declared.Entry.{Entry as Framed}
 use Rattle.frame.specs.declared.Reading.{Reading}
 use Rattle.frame.specs.declared.Reading.the-variants.{Frame, Refused}
 use Rattle.intake.specs.Book.{Book, callOf, openRefusal, openBook, callRefusal, callBook, frameBook, bookIn, mostLines, bookAfter, answersTo, bookAfterAll, totalOf}
-use Rattle.intake.specs.Desk.{bookRefusal, feedRefusal, endRefusal, settledIn, settled}
+use Rattle.intake.specs.Desk.{bookRefusal, feedRefusal, endRefusal}
 use Rattle.intake.proofs.Calls.{answered-none}
 
 -- ---- what the test says
@@ -112,17 +112,18 @@ pub all-kept : (book : Book) (ls : List (List ℕ)) → bookRefusal book ≡ 0 �
 all-kept book [] k = k
 all-kept book (l ∷ ls) k = all-kept (bookAfter book l) ls (after-kept book l k)
 
--- ---- the total is the month total
+-- ---- the total is the month total: the sum of the amounts less the fee, each far inside 64 bits
 
-pub settled-total : (book : Book) → bookRefusal book ≡ 0 → settled book ≡ totalOf book
-unfolding settledIn totalOf totalOn
-settled-total book k =
-    by-test (book .opened)
-    (λ (o : book .opened ≡ true).
-    let g = book-good book k o in
-    let f = passed (inRange (pos 0) (pos 100000000000) (book .board .fee tt)) 2 0 (g .fee-fits tt) .0 in
-    rw (o, f) (ap (λ (z : ℤ). z -ℤ book .board .fee tt) (all-summed (monthOf (book .days) (book .board)) g)))
-    (λ (o : book .opened ≡ false). rw o)
+module _ (book : Book) (k : bookRefusal book ≡ 0) (o : book .opened ≡ true) where
+  pub total-sum : summed (book .board .items) .sum -ℤ book .board .fee tt ≡ totalOf book
+  unfolding totalOf totalOn
+  total-sum = rw o (ap (λ (z : ℤ). z -ℤ book .board .fee tt) (all-summed (monthOf (book .days) (book .board)) (book-good book k o)))
+
+  pub sum-small : Within 744000000000 (summed (book .board .items) .sum)
+  sum-small = rw (all-summed (monthOf (book .days) (book .board)) (book-good book k o)) (all-within (monthOf (book .days) (book .board)) (book-good book k o))
+
+  pub fee-small : Within 100000000000 (book .board .fee tt)
+  fee-small = fee-within (monthOf (book .days) (book .board)) (book-good book k o)
 
 -- ---- what the program answers to a call and keeps of it is what the ledger's call by value answers and hands back, 22 first
 

@@ -4,7 +4,6 @@ mod Printed
 mod Cutting
 mod Calls
 mod Going
-mod Totals
 pub mod Kept
 pub mod Demand
 pub mod Transcript

@@ -1,13 +1,12 @@
 -- The program's state as it is kept: a line that has begun, up to 25 bytes of it, and a book whose places are two lent runs. An input comes in
 -- chunks of any size.
 use Prim.Native.Nat.{ℕ, _+_, _/_}
-use mathlib.Core.Bool.{Bool, true, false, _&&_}
+use mathlib.Core.Bool.{Bool, false}
 use mathlib.Core.List.{List, [], _∷_, _++_}
 use lib.Dec.{ltb, leb, eqb}
-use lib.IntN.{ℤ, pos, _-ℤ_}
+use lib.IntN.{ℤ, pos}
 use lib.ListN.{length, take, set, replicate}
 use Rattle.whole.specs.Choice.{pick, unless, kept}
-use Rattle.whole.specs.Whole.{summed, inRange}
 use Rattle.units.specs.Refusals.{wrongLength}
 use Rattle.history.specs.Rules.{Call, lossFee, close}
 use Rattle.history.specs.Board.{runsFit, ledgerRefusal}
@@ -132,14 +131,6 @@ module _ (state : State) (chunk : List ℕ) (filled : List Bool) (amounts : List
     fedOut = kept fedNumber (put out 0 chunkText) out
 
 -- ---- the input's end
-
--- the total of any book whatever: 0 where the fee is none or the amounts cannot be summed. On a ledger that calls have left it is the month total, and `finish` refuses any other.
-unfoldable pub settledIn : Desk → List ℤ → ℤ
-settledIn desk amounts =
-    pick (desk .opened && inRange (pos 0) (pos 100000000000) (desk .head .fee .0)) (summed amounts .sum -ℤ desk .head .fee .0) (pos 0)
-
-abbrev pub settled : Book → ℤ
-settled book = settledIn (deskOf book) (book .board .items)
 
 -- room for an answer and the total: 1; then what the state shows
 unfoldable pub endRefusal : Book → ℕ → ℕ

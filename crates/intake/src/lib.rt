@@ -11,8 +11,8 @@ ghost use Rattle.whole.specs.Choice.{unless};
 ghost use Rattle.units.specs.Refusals.{notOpen, notInMonth};
 ghost use Rattle.board.specs.Board.{dollars, isDays};
 ghost use Rattle.frame.specs.Frame.{readingOf};
-ghost use Rattle.intake.specs.Book.{openRefusal, openBook, callRefusal, callBook, callOf, frameRefusal, frameBook, readingRefusal, bookIn, answerTo, bookAfter};
-ghost use Rattle.intake.specs.Desk.{heldIn, keptIn, bookOf, headCall, headTaken, refusalNumber, settledIn, startState, bookRefusal, feedRefusal, chunkText, chunkBook, chunkState, fedOf, fedMarks, fedAmounts, fedOut, lastBook, lastAnswer, lastText, endRefusal, finishedOf, endMarks, endAmounts, endOut};
+ghost use Rattle.intake.specs.Book.{openRefusal, openBook, callRefusal, callBook, callOf, frameRefusal, frameBook, readingRefusal, bookIn, answerTo, bookAfter, totalOf};
+ghost use Rattle.intake.specs.Desk.{heldIn, keptIn, bookOf, headCall, headTaken, refusalNumber, startState, bookRefusal, feedRefusal, chunkText, chunkBook, chunkState, fedOf, fedMarks, fedAmounts, fedOut, lastBook, lastAnswer, lastText, endRefusal, finishedOf, endMarks, endAmounts, endOut};
 use board::Head;
 use board::Headed;
 use frame::Entry;
@@ -384,14 +384,15 @@ pub fn feed(
     answer_all(state, chunk, filled, amounts, out)
 }
 
-// The total of any desk whatever.
-fn settle(desk: Desk, amounts: &[i64]) -> Dollars
-    ensures { λ r. ⌜ r ≡ dollars (settledIn desk (now (amounts .entry))) ⌝ }
+// The month total of a ledger in form, 0 where no month is open.
+fn settle<'a>(desk: Desk, filled: &'a [bool], amounts: &'a [i64]) -> Dollars
+    requires { ⌜ bookRefusal (bookOf desk (now filled) (now amounts)) ≡ 0 ⌝ }
+    ensures { λ r. ⌜ r ≡ dollars (totalOf (bookOf desk (now (filled .entry)) (now (amounts .entry)))) ⌝ }
 {
-    let head = desk.head;
-    let fee = head.fee;
-    let f = fee.0;
-    if desk.opened & whole::within(f, 0, board::FEE) {
+    if desk.opened {
+        let head = desk.head;
+        let fee = head.fee;
+        let f = fee.0;
         let s = whole::sum(amounts);
         return Dollars(s.sum - f);
     }
@@ -429,7 +430,7 @@ fn finish_all(state: State, filled: &mut [bool], amounts: &mut [i64], out: &mut 
 {
     let work = last_line(state, filled, amounts, out);
     let desk = work.desk;
-    let total = settle(desk, amounts);
+    let total = settle(desk, filled, amounts);
     let to = print::put_total(out, work.at, total.0);
     Finished {
         refusal: 0,

@@ -45,7 +45,7 @@ refused Quality n t f = by-test (eqb (qualityRefusal (dollars n 0) (dollars n 1)
 refused Energy n t f = by-test (eqb (energyRefusal t (take 4 (drop 2 n)) (number n 0) (number n 1)) 0) (λ e. absurd (f (rw e))) (λ e. rw e)
 refused Loss n t f = by-test (eqb (lossRefusal (number n 0) (number n 1) (number n 2) (number n 3)) 0) (λ e. absurd (f (rw e))) (λ e. rw e)
 
-answer-refused-bare : RefusedBare 1 answer-kinds.ps answer-kinds.r (λ κs x. x .refusal) (λ κs a k. boxed (zeros (a .0) k)) answer.Post
-answer-refused-bare κs a x s p f =
+answer-refused-keeps : RefusedBare 1 answer-kinds.ps answer-kinds.r (λ κs x. x .refusal) (λ κs a k. boxed (zeros (a .0) k)) answer.Post
+answer-refused-keeps κs a x s p f =
     let k = ap (λ (y : Few). y .refusal) p in
     p ∙ ap boxed (refused (a .0) _ _ (λ z. f (k ∙ z))) ∙ sym (ap (λ n. boxed (zeros (a .0) n)) k)

@@ -18,7 +18,7 @@ module _ (n : ℕ) (ps : List (PK n)) (r : RK n) where
       (κs : Lfts n) (a : Dens κs ps) (x : resT r κs .Denot) (s : AtExit (endedOf n ps r) κs) →
       Post κs a x s → (number κs x ≡ 0 → ⊥) → (x ≡ bare κs a (number κs x)) × (left κs s ≡ lent κs a)
 
-  -- the same of a function that is lent no run
+  -- the same of a function that is lent no run to fill
   abbrev pub RefusedBare : ((κs : Lfts n) → resT r κs .Denot → ℕ) → ((κs : Lfts n) → Dens κs ps → ℕ → resT r κs .Denot) → Out n ps r → Type 0
   RefusedBare number bare Post =
       (κs : Lfts n) (a : Dens κs ps) (x : resT r κs .Denot) (s : AtExit (endedOf n ps r) κs) →

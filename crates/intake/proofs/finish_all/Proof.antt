@@ -12,8 +12,8 @@ use Rattle.units.specs.declared.Dollars.{Dollars}
 use Rattle.text.specs.Text.{put}
 use Rattle.intake.specs.Text.{totalText}
 use Rattle.intake.specs.Book.{Book, totalOf}
-use Rattle.intake.specs.Desk.{bookOf, lastIn, settled, lastBook, lastAnswer}
-use Rattle.intake.proofs.Kept.{book-long, all-kept, settled-total}
+use Rattle.intake.specs.Desk.{bookOf, bookRefusal, lastIn, lastBook, lastAnswer}
+use Rattle.intake.proofs.Kept.{book-long, all-kept}
 use Rattle.text.proofs.Places.{put-then}
 use Rattle.text.proofs.Spelling.{length-signed}
 use Rattle.intake.proofs.Printed.{total-long}
@@ -24,14 +24,12 @@ use Rattle.intake.proofs.finish_all.Tie as tie
 total-fits : (c : tie.After-struct-told) → SFits w64 (c .before .before .settle .result .0)
 total-fits c = search needs
 
-total-is : (c : tie.After-struct-told) → let a = c .before .before .before .before .before .before .before .before .before .before .before .before .before .before .before .before .args in toZ w64 (ofZ w64 (c .before .before .settle .result .0)) ≡ totalOf (lastBook (a .state) (a .filled .now) (a .amounts .now))
+total-is : (c : tie.After-struct-told) → let a = c .before .before .before .before .before .before .before .before .before .before .before .before .before .before .before .before .before .args in toZ w64 (ofZ w64 (c .before .before .settle .result .0)) ≡ totalOf (lastBook (a .state) (a .filled .now) (a .amounts .now))
 total-is c =
-    let l = c .before .before .before .before .before .before .before .before .before .before in
+    let l = c .before .before .before .before .before .before .before .before .before .before .before in
     let s = l .before .before .before .before .before .before in
     let a = s .args in
-    let book = bookOf (a .state .desk) (a .filled .now) (a .amounts .now) in
-    toZ-ofZ (total-fits c) ∙ ap (λ (z : Dollars). z .0) (c .before .before .settle .ensures) ∙ ap settled (l .last-line .ensures .0)
-    ∙ settled-total (lastBook (a .state) (a .filled .now) (a .amounts .now)) (all-kept book (lastIn (a .state .line)) (s .pre .1))
+    toZ-ofZ (total-fits c) ∙ ap (λ (z : Dollars). z .0) (c .before .before .settle .ensures) ∙ ap totalOf (l .last-line .ensures .0)
 
 -- the total is at most 28 bytes
 short : (c : tie.After-struct-told) → length (totalText (toZ w64 (ofZ w64 (c .before .before .settle .result .0)))) ≤ 28
@@ -46,10 +44,14 @@ last-line-requires c κs =
     (omega (arith, s .pre .0), book-long (bookOf (a .state .desk) (a .filled .now) (a .amounts .now)) (s .pre .1))
 
 settle-requires : tie.Need-settle-requires
-settle-requires c κs = search needs
+settle-requires c κs =
+    let l = c .before .before .before .before .before .before .before .before in
+    let s = l .before .before .before .before .before .before in
+    let a = s .args in
+    ap bookRefusal (l .last-line .ensures .0) ∙ all-kept (bookOf (a .state .desk) (a .filled .now) (a .amounts .now)) (lastIn (a .state .line)) (s .pre .1)
 
 put-total-requires : tie.Need-put-total-requires
-put-total-requires c κs = let l = c .before .before .before .before .before .before .before .before .before .before .last-line in omega (arith, short c, l .ensures .1 .1 .1, l .kept .1 .1 .1 .0, c .before .before .before .before .before .before .before .before .before .before .before .before .before .before .before .before .pre .0)
+put-total-requires c κs = let l = c .before .before .before .before .before .before .before .before .before .before .before .last-line in omega (arith, short c, l .ensures .1 .1 .1, l .kept .1 .1 .1 .0, c .before .before .before .before .before .before .before .before .before .before .before .before .before .before .before .before .before .pre .0)
 
 same-length : tie.Need-same-length
 same-length c = search needs
@@ -63,8 +65,8 @@ same-length-3 c = search needs
 returns : tie.Need-returns
 returns c = let p = c .before .before in
     let d = p .before in
-    let l = d .before .before .before .before .before .before .before .before .before .before .last-line in
-    let s = d .before .before .before .before .before .before .before .before .before .before .before .before .before .before .before .before in
+    let l = d .before .before .before .before .before .before .before .before .before .before .before .last-line in
+    let s = d .before .before .before .before .before .before .before .before .before .before .before .before .before .before .before .before .before in
     let a = s .args in
     let book = lastBook (a .state) (a .filled .now) (a .amounts .now) in
     let first = lastAnswer (a .state) (a .filled .now) (a .amounts .now) in
