@@ -1,18 +1,20 @@
 #!/usr/bin/env python3
-"""Prints crates/curve/src/table.rt: the power curve of document 001, table 1, at each millihertz from 59,750 to 60,250.
+"""Prints crates/curve/src/table.rt: the power curve of document 001, table 1, at each millihertz from its first corner to its last.
 
 Exact fractions; each percent is the nearest whole number to the line, a half going away from zero.
 `python3 crates/curve/make_table.py | cmp - crates/curve/src/table.rt` shows that the file is this script's."""
 from fractions import Fraction
 
-CORNERS = [  # millihertz, upper percent, lower percent
-    (59750, 100, 100),
-    (59860, 52, 52),
-    (59980, 9, -9),
-    (60020, 9, -9),
-    (60140, -52, -52),
-    (60250, -100, -100),
+REFERENCE = 60000  # millihertz
+CORNERS = [  # millihertz from the reference, upper percent, lower percent
+    (-250, 100, 100),
+    (-140, 52, 52),
+    (-20, 9, -9),
+    (20, 9, -9),
+    (140, -52, -52),
+    (250, -100, -100),
 ]
+FIRST, LAST = CORNERS[0][0], CORNERS[-1][0]
 
 
 def nearest(q):
@@ -20,15 +22,15 @@ def nearest(q):
     return int(size) if q >= 0 else -int(size)
 
 
-def percent(bound, f):
+def percent(bound, d):
     for p, q in zip(CORNERS, CORNERS[1:]):
-        if f <= q[0]:
-            return nearest(p[bound] + Fraction(f - p[0], q[0] - p[0]) * (q[bound] - p[bound]))
+        if d <= q[0]:
+            return nearest(p[bound] + Fraction(d - p[0], q[0] - p[0]) * (q[bound] - p[bound]))
 
 
-print("// The power curve: 501 pairs, upper and lower percent of capacity for each millihertz from 59,750 to 60,250. make_table.py prints this file.")
+print(f"// The power curve: 501 pairs, upper and lower percent of capacity for each millihertz from {REFERENCE + FIRST:,} to {REFERENCE + LAST:,}. make_table.py prints this file.")
 print("pub const PAIRS: [i8; 1_002] = [")
-for f in range(59750, 60251):
-    print(f"    {percent(1, f)}, // {f} upper")
-    print(f"    {percent(2, f)}, // {f} lower")
+for d in range(FIRST, LAST + 1):
+    print(f"    {percent(1, d)}, // {REFERENCE + d} upper")
+    print(f"    {percent(2, d)}, // {REFERENCE + d} lower")
 print("];")

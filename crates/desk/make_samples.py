@@ -1,7 +1,7 @@
 #!/usr/bin/env python3
 """Makes this crate's stdin and stdout, and the sample hour with its answer (samples/hour, samples/hour.answers).
 
-What is answered comes from the model beside the papers' figures (crates/figures/expected.py), which works in exact fractions and shares nothing with the Rattle
+What is answered comes from the model beside the papers' figures (crates/figures_hours/expected.py), which works in exact fractions and shares nothing with the Rattle
 code; the lines of the form's faults are written out by hand."""
 import contextlib
 import importlib.util
@@ -11,7 +11,7 @@ import random
 
 HERE = os.path.dirname(os.path.abspath(__file__))
 ROOT = os.path.dirname(os.path.dirname(HERE))
-spec = importlib.util.spec_from_file_location("expected", os.path.join(ROOT, "crates/figures/expected.py"))
+spec = importlib.util.spec_from_file_location("expected", os.path.join(ROOT, "crates/figures_hours/expected.py"))
 model = importlib.util.module_from_spec(spec)
 with contextlib.redirect_stdout(io.StringIO()):
     spec.loader.exec_module(model)

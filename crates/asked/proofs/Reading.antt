@@ -2,26 +2,28 @@
 -- left. Assumes nothing.
 use Prim.Native.Nat.{ℕ, suc, _+_, _≤_, _<_}
 use native.Mathlib.Omega.{arith}
-use mathlib.Core.Path.{_≡_, refl, sym, ap, _∙_}
-use mathlib.Core.Bool.{Bool, true, false}
+use mathlib.Core.Path.{_≡_, refl, sym, _∙_}
+use mathlib.Core.Bool.{Bool, true, false, _&&_}
 use mathlib.Core.List.{List, [], _∷_}
 use lib.IntN.{ℤ}
 use lib.ListN.{length, getD, drop, set, length-set}
-use Rattle.whole.proofs.Choice.{by-test, clash, kept-any}
+use Rattle.whole.specs.Choice.{pick}
+use Rattle.whole.proofs.Choice.{by-test, kept-any}
 use Rattle.whole.proofs.Runs.{rest, no-rest}
-use Rattle.asked.specs.Bytes.{parts}
-use Rattle.asked.specs.Tokens.{valueOf}
-use Rattle.asked.specs.Asking.{tokenFault, stored, begins, stepped, runStepped, takenIn, stateIn, runIn, endedIn, nextOf}
-use Rattle.asked.specs.declared.Token.{Token}
+use Rattle.tokens.specs.Bytes.{parts}
+use Rattle.tokens.specs.Tokens.{tokenNumber, stepOf}
+use Rattle.asked.specs.Asking.{tokenFault, begins, stepped}
+use Rattle.asked.specs.Inner.{stored, runStepped, takenIn, stateIn, runIn, endedIn, isRun, reachedOf, endOf, answerIn, runAfter, readOf}
+use Rattle.tokens.specs.declared.Next.{Next}
+use Rattle.tokens.specs.declared.Token.{Token}
 use Rattle.asked.specs.declared.State.{State}
-use Rattle.asked.specs.declared.Reached.{Reached}
 
 -- ---- the run keeps its length
 
 pub length-stored : (count : ℕ) (token : Token) (run : List ℤ) → length (stored count token run) ≡ length run
 unfolding stored
 length-stored count token run =
-    kept-any (λ (r : List ℤ). length r ≡ length run) (tokenFault count token) {new = set run count (valueOf token)} {old = run} (λ e. length-set run count (valueOf token)) refl
+    kept-any (λ (r : List ℤ). length r ≡ length run) (tokenFault count token) {new = set run count (tokenNumber token .value)} {old = run} (λ e. length-set run count (tokenNumber token .value)) refl
 
 pub length-stepped : (state : State) (b : ℕ) (run : List ℤ) → length (runStepped state b run) ≡ length run
 unfolding runStepped
@@ -29,6 +31,17 @@ length-stepped state b run =
     by-test (parts b)
     (λ (t : parts b ≡ true). rw t (length-stored (state .asked .count) (state .token) run))
     (λ (t : parts b ≡ false). rw t)
+
+-- ---- a byte, by what it does to the token
+
+module _ (state : State) (b : ℕ) (next : Next) (n : next ≡ stepOf (state .token) b) where
+  pub begins-by : begins state b ≡ (state .asked .opened && next .word)
+  unfolding begins stepOf
+  begins-by = rw n
+
+  pub stores-by : (run : List ℤ) → pick (next .ended) (stored (state .asked .count) (state .token) run) run ≡ runStepped state b run
+  unfolding runStepped stepOf
+  stores-by run = rw n
 
 -- ---- from a place of the chunk on
 
@@ -56,12 +69,7 @@ module _ {start : State} {chunk : List ℕ} {begun : List ℤ} {reached : State}
   -- what is answered where the reading stops at place i
   abbrev pub Stopped : Bool → Type 0
   Stopped ended =
-      (_≡_ {A = Reached} (record { refusal = 0; state = reached; taken = i; ended = ended }) (record {
-        refusal = 0;
-        state = stateIn start chunk;
-        taken = takenIn start chunk;
-        ended = endedIn start chunk;
-      }))
+      (reachedOf reached i ended ≡ reachedOf (stateIn start chunk) (takenIn start chunk) (endedIn start chunk))
       × (run ≡ runIn start chunk begun)
 
   -- the byte there begins the next question
@@ -91,23 +99,31 @@ taken-within state (b ∷ bs) =
     (λ (t : begins state b ≡ true). rw t (omega arith))
     (λ (t : begins state b ≡ false). rw t (omega (arith, taken-within (stepped state b) bs)))
 
--- a question that has ended leaves the byte that begins the next
-pub ended-left : (state : State) (chunk : List ℕ) → endedIn state chunk ≡ true → takenIn state chunk < length chunk
-ended-left state [] h = clash h
-ended-left state (b ∷ bs) h =
-    by-test (begins state b)
-    (λ (t : begins state b ≡ true). rw t (omega arith))
-    (λ (t : begins state b ≡ false). rw t (omega (arith, ended-left (stepped state b) bs (rw t at h))))
+pub taken-in : (state : State) (chunk : List ℕ) → answerIn state chunk .taken ≤ length chunk
+unfolding reachedOf
+taken-in state [] = omega arith
+taken-in state (b ∷ bs) = taken-within state (b ∷ bs)
 
-pub all-taken : (state : State) (chunk : List ℕ) → endedIn state chunk ≡ false → takenIn state chunk ≡ length chunk
-all-taken state [] h = refl
-all-taken state (b ∷ bs) h =
-    by-test (begins state b)
-    (λ (t : begins state b ≡ true). clash (sym (rw t at h)))
-    (λ (t : begins state b ≡ false). rw t (ap suc (all-taken (stepped state b) bs (rw t at h))))
+-- whatever is handed in
+pub read-taken : (state : State) (chunk : List ℕ) (run : List ℤ) → readOf state chunk run .taken ≤ length chunk
+unfolding readOf
+read-taken state chunk run =
+    by-test (isRun run)
+    (λ (t : isRun run ≡ true). rw t (taken-in state chunk))
+    (λ (t : isRun run ≡ false). rw t (omega arith))
 
--- the next question takes its first byte: the reading goes on
-pub next-takes : (state : State) (chunk : List ℕ) → 0 < length chunk → 0 < takenIn (nextOf state) chunk
-unfolding nextOf begins
-next-takes state [] h = absurd (omega arith)
-next-takes state (b ∷ bs) h = omega arith
+-- ---- a chunk of no bytes, and any other
+
+pub granted-none : (state : State) (chunk : List ℕ) → answerIn state chunk .refusal ≡ 0
+unfolding reachedOf
+granted-none state [] = refl
+granted-none state (b ∷ bs) = refl
+
+module _ (state : State) (run : List ℤ) where
+  pub at-end : (chunk : List ℕ) → length chunk ≡ 0 → (answerIn state chunk ≡ endOf state) × (runAfter state chunk run ≡ stored (state .asked .count) (state .token) run)
+  at-end [] e = (refl, refl)
+  at-end (b ∷ bs) e = absurd (omega arith)
+
+  pub not-end : (chunk : List ℕ) → (length chunk ≡ 0 → ⊥) → (answerIn state chunk ≡ reachedOf (stateIn state chunk) (takenIn state chunk) (endedIn state chunk)) × (runAfter state chunk run ≡ runIn state chunk run)
+  not-end [] h = absurd (h refl)
+  not-end (b ∷ bs) h = (refl, refl)

@@ -1,20 +1,15 @@
--- Desk rule, "Reading": what each byte does to the question that is read, and to the lent run that its numbers go into.
-use Prim.Native.Nat.{ℕ, suc, _+_, min}
+-- Desk rule, "Reading": what each byte does to the question that is read.
+use Prim.Native.Nat.{ℕ, _+_, min}
 use mathlib.Core.Bool.{Bool, true, false, _&&_}
-use mathlib.Core.List.{List, [], _∷_}
 use lib.Dec.{eqb, ltb}
-use lib.IntN.{ℤ}
-use lib.ListN.{length, set}
 use Rattle.whole.specs.Choice.{pick, unless, orElse, kept}
-use Rattle.units.specs.Refusals.{wrongLength}
 use Rattle.words.specs.Faults.{notQuestion, tooMany}
-use Rattle.asked.specs.Bytes.{lineEnd, parts, isLetter}
-use Rattle.asked.specs.Tokens.{noWord, grown, isBetween, after, faultOf, valueOf}
-use Rattle.asked.specs.declared.Token.{Token}
-use Rattle.asked.specs.declared.Token.the-variants.{Between, Comment, Word, Sign, Number, Below, Other}
+use Rattle.tokens.specs.Bytes.{lineByte, parts}
+use Rattle.tokens.specs.Tokens.{noWord, grown, after, beginsWord, tokenNumber}
+use Rattle.tokens.specs.declared.Token.{Token}
+use Rattle.tokens.specs.declared.Token.the-variants.{Between, Comment, Word, Sign, Number, Below, Other}
 use Rattle.asked.specs.declared.Asked.{Asked}
 use Rattle.asked.specs.declared.State.{State}
-use Rattle.asked.specs.declared.Reached.{Reached}
 
 -- "A question holds at most 8,192 numbers"
 abbrev pub mostNumbers : ℕ
@@ -47,16 +42,20 @@ faulted asked fault line =
     (record { opened = asked .opened; word = asked .word; line = asked .line; count = asked .count; fault = fault; place = line })
     asked
 
+-- a token's fault, or that its question has no room for one number more
+unfoldable pub faultIn : ℕ → ℕ → ℕ
+faultIn count fault = orElse fault (unless (ltb count mostNumbers) tooMany 0)
+
 -- the token is no number, or too large, or finds no room
-unfoldable pub tokenFault : ℕ → Token → ℕ
-tokenFault count token = orElse (faultOf token) (unless (ltb count mostNumbers) tooMany 0)
+abbrev pub tokenFault : ℕ → Token → ℕ
+tokenFault count token = faultIn count (tokenNumber token .fault)
 
 abbrev pub oneMore : Asked → Asked
 oneMore asked =
     record { opened = asked .opened; word = asked .word; line = asked .line; count = asked .count + 1; fault = asked .fault; place = asked .place }
 
-unfoldable pub joined : Asked → ℕ → Token → Asked
-joined asked line token =
+unfoldable pub withToken : Asked → ℕ → Token → Asked
+withToken asked line token =
     kept (tokenFault (asked .count) token) (oneMore (asking asked line)) (faulted (asking asked line) (tokenFault (asked .count) token) line)
 
 -- the question once the token has ended
@@ -64,24 +63,20 @@ abbrev pub finished : Asked → ℕ → Token → Asked
 finished asked line Between = asked
 finished asked line Comment = asked
 finished asked line (Word code) = named (asked .count) line code
-finished asked line Sign = joined asked line Sign
-finished asked line (Number size) = joined asked line (Number size)
-finished asked line (Below size) = joined asked line (Below size)
-finished asked line Other = joined asked line Other
-
--- the run, with the token's number at the next place
-unfoldable pub stored : ℕ → Token → List ℤ → List ℤ
-stored count token run = kept (tokenFault count token) (set run count (valueOf token)) run
+finished asked line Sign = withToken asked line Sign
+finished asked line (Number size) = withToken asked line (Number size)
+finished asked line (Below size) = withToken asked line (Below size)
+finished asked line Other = withToken asked line Other
 
 -- ---- a byte
 
 -- "Lines are counted from 1": past the largest number of 64 bits the count stays
 unfoldable pub lineAfter : ℕ → ℕ → ℕ
-lineAfter line b = pick (eqb b lineEnd) (min (line + 1) 18446744073709551615) line
+lineAfter line b = pick (eqb b lineByte) (min (line + 1) 18446744073709551615) line
 
 -- "A question ends where the next question's word begins"
 unfoldable pub begins : State → ℕ → Bool
-begins state b = state .asked .opened && isBetween (state .token) && isLetter b
+begins state b = state .asked .opened && beginsWord (state .token) b
 
 unfoldable pub stepped : State → ℕ → State
 stepped state b =
@@ -89,54 +84,11 @@ stepped state b =
     (record { asked = finished (state .asked) (state .line) (state .token); token = after (state .token) b; line = lineAfter (state .line) b })
     (record { asked = state .asked; token = grown (state .token) b; line = state .line })
 
-unfoldable pub runStepped : State → ℕ → List ℤ → List ℤ
-runStepped state b run = pick (parts b) (stored (state .asked .count) (state .token) run) run
-
--- ---- a chunk, up to the byte that begins the next question
-
-abbrev pub takenIn : State → List ℕ → ℕ
-takenIn state [] = 0
-takenIn state (b ∷ bs) = pick (begins state b) 0 (suc (takenIn (stepped state b) bs))
-
-abbrev pub stateIn : State → List ℕ → State
-stateIn state [] = state
-stateIn state (b ∷ bs) = pick (begins state b) state (stateIn (stepped state b) bs)
-
-abbrev pub runIn : State → List ℕ → List ℤ → List ℤ
-runIn state [] run = run
-runIn state (b ∷ bs) run = pick (begins state b) run (runIn (stepped state b) bs (runStepped state b run))
-
-abbrev pub endedIn : State → List ℕ → Bool
-endedIn state [] = false
-endedIn state (b ∷ bs) = pick (begins state b) true (endedIn (stepped state b) bs)
-
--- a run of any other length is refused with 1, and then nothing is changed
-abbrev pub fits : List ℤ → Bool
-fits run = eqb (length run) mostNumbers
-
-abbrev pub refused : State → Reached
-refused state = record { refusal = wrongLength; state = state; taken = 0; ended = false }
-
-unfoldable pub readOf : State → List ℕ → List ℤ → Reached
-readOf state chunk run =
-    pick (fits run)
-    (record { refusal = 0; state = stateIn state chunk; taken = takenIn state chunk; ended = endedIn state chunk })
-    (refused state)
-
-unfoldable pub readRun : State → List ℕ → List ℤ → List ℤ
-readRun state chunk run = pick (fits run) (runIn state chunk run) run
-
 -- ---- the input's end, and the next question
 
 unfoldable pub lastState : State → State
 lastState state = record { asked = finished (state .asked) (state .line) (state .token); token = Between; line = state .line }
 
-unfoldable pub endOf : State → List ℤ → Reached
-endOf state run =
-    pick (fits run) (record { refusal = 0; state = lastState state; taken = 0; ended = lastState state .asked .opened }) (refused state)
-
-unfoldable pub endRun : State → List ℤ → List ℤ
-endRun state run = pick (fits run) (stored (state .asked .count) (state .token) run) run
-
-unfoldable pub nextOf : State → State
-nextOf state = record { asked = nothing; token = state .token; line = state .line }
+-- once a question has ended: the same line, nothing asked
+unfoldable pub stateNext : State → State
+stateNext state = record { asked = nothing; token = state .token; line = state .line }

@@ -1,13 +1,16 @@
-// Reading questions: bytes in, in chunks of any size; one question at a time out, with its word, its numbers in a lent run, and its first fault.
-// What a question means is not known here.
+// Reading questions: bytes in, in chunks of any size; one question at a time out, with its word, its numbers in a
+// lent run, and its first fault. What a question means is not known here.
 ghost use mathlib.Core.Path.{_≡_};
 ghost use lib.ListN.{length};
-ghost use Rattle.asked.specs.Asking.{mostNumbers, startState, named, asking, faulted, tokenFault, joined, finished, stored, lineAfter, begins, stepped, runStepped, takenIn, stateIn, runIn, endedIn, readOf, readRun, endOf, endRun, nextOf, nothing};
+ghost use Rattle.whole.specs.Choice.{pick};
+ghost use Rattle.tokens.specs.Tokens.{stepOf};
+ghost use Rattle.asked.specs.Asking.{mostNumbers, nothing, startState, named, asking, faulted, faultIn, withToken, finished};
+ghost use Rattle.asked.specs.Asking.{lineAfter, stepped};
+ghost use Rattle.asked.specs.Inner.{stored, takenIn, stateIn, runIn, endedIn, reachedOf, endOf, readOf, readRun};
+use tokens::Next;
+use tokens::Token;
 use units::refusals;
 use words::faults;
-
-mod bytes;
-mod tokens;
 
 // The most numbers of a question: the length of the run that is lent.
 pub const MOST: usize = 8192;
@@ -16,7 +19,8 @@ pub const MOST: usize = 8192;
 pub struct Asked {
     // whether a token of it has ended
     pub opened: bool,
-    // its word's letters in base 32, the first highest: a is 1, .., z is 26, _ is 27; 0 where it has no word of at most 12 letters
+    // its word's letters in base 32, the first highest: a is 1, .., z is 26, _ is 27; 0 where it has no word of at
+    // most 12 letters
     pub word: u64,
     // the line of its word, or of its first token
     pub line: u64,
@@ -28,22 +32,6 @@ pub struct Asked {
     pub place: u64,
 }
 
-// The bytes since the last separator.
-pub enum Token {
-    Between,
-    Comment,
-    // begins with a letter: its code, or NO_WORD
-    Word(u64),
-    // a sign and nothing else
-    Sign,
-    // digits: their number, or MOST_SIZE where it is larger
-    Number(u64),
-    // a sign and digits
-    Below(u64),
-    // neither a word nor a number
-    Other,
-}
-
 // What goes from chunk to chunk.
 pub struct State {
     pub asked: Asked,
@@ -51,9 +39,11 @@ pub struct State {
     pub line: u64,
 }
 
-// How far a chunk was read: the next state, how many bytes were taken, and whether the question has ended.
+// How far a chunk was read: the question, the state to go on with, how many bytes were taken, and whether the
+// question has ended.
 pub struct Reached {
     pub refusal: u8,
+    pub asked: Asked,
     pub state: State,
     pub taken: usize,
     pub ended: bool,
@@ -61,6 +51,39 @@ pub struct Reached {
 
 // The last line that is counted.
 const LAST: u64 = 18_446_744_073_709_551_615;
+
+// The first state: line 1, nothing asked.
+pub fn start() -> State
+    ensures { λ r. ⌜ r ≡ startState ⌝ }
+{
+    State {
+        asked: nothing(),
+        token: Token::Between,
+        line: 1,
+    }
+}
+
+// Goes through the chunk up to the byte that begins the next question, which is not taken, or through all of it. A
+// chunk of no bytes is the input's end: the token that has begun ends, and so does the question that is open. A run
+// of another length is refused with 1, and nothing is changed.
+pub fn read(state: State, chunk: &[u8], numbers: &mut [i64]) -> Reached
+    ensures answer { λ r. ⌜ r ≡ readOf state (now (chunk .entry)) (now (numbers .entry)) ⌝ }
+    ensures run { λ r. ⌜ now (numbers .exit) ≡ readRun state (now (chunk .entry)) (now (numbers .entry)) ⌝ }
+{
+    if numbers.len() != MOST {
+        return Reached {
+            refusal: refusals::WRONG_LENGTH,
+            asked: nothing(),
+            state,
+            taken: 0,
+            ended: false,
+        };
+    }
+    if chunk.len() == 0 {
+        return end(state, numbers);
+    }
+    read_all(state, chunk, numbers)
+}
 
 fn nothing() -> Asked
     ensures { λ r. ⌜ r ≡ nothing ⌝ }
@@ -126,18 +149,19 @@ fn faulted(asked: Asked, fault: u8, line: u64) -> Asked
     asked
 }
 
-fn token_fault(count: usize, token: Token) -> u8
-    ensures { λ r. ⌜ r ≡ tokenFault count token ⌝ }
+// A token's fault, or 104 where its question has no room for one number more.
+fn fault_in(count: usize, fault: u8) -> u8
+    ensures { λ r. ⌜ r ≡ faultIn count fault ⌝ }
 {
-    let room = whole::unless(count < MOST, faults::TOO_MANY, 0);
-    whole::or_else(tokens::fault_of(token), room)
+    whole::or_else(fault, whole::unless(count < MOST, faults::TOO_MANY, 0))
 }
 
 // A token that is no word joins its question.
 fn joined(asked: Asked, line: u64, token: Token) -> Asked
-    ensures { λ r. ⌜ r ≡ joined asked line token ⌝ }
+    ensures { λ r. ⌜ r ≡ withToken asked line token ⌝ }
 {
-    let fault = token_fault(asked.count, token);
+    let number = tokens::number(token);
+    let fault = fault_in(asked.count, number.fault);
     let question = asking(asked, line);
     if fault == 0 {
         return Asked {
@@ -167,13 +191,15 @@ fn finished(asked: Asked, line: u64, token: Token) -> Asked
     }
 }
 
-// Puts the token's number at the next place, if it is one and finds room.
-fn store(count: usize, token: Token, numbers: &mut [i64])
+// Puts the number of a token that has ended at the next place, if it is one and finds room.
+fn store(ended: bool, count: usize, token: Token, numbers: &mut [i64])
     requires { ⌜ length (now numbers) ≡ mostNumbers ⌝ }
-    ensures { λ _. ⌜ now (numbers .exit) ≡ stored count token (now (numbers .entry)) ⌝ }
+    ensures { λ _. ⌜ now (numbers .exit) ≡ pick ended (stored count token (now (numbers .entry))) (now (numbers .entry)) ⌝ }
 {
-    if token_fault(count, token) == 0 {
-        numbers[count] = tokens::value_of(token);
+    let number = tokens::number(token);
+    let value = number.value;
+    if ended & (fault_in(count, number.fault) == 0) {
+        numbers[count] = value;
     }
 }
 
@@ -188,140 +214,94 @@ fn line_after(line: u64, b: u8) -> u64
     line
 }
 
-// Whether the byte begins the next question.
-fn begins(state: State, b: u8) -> bool
-    ensures { λ r. ⌜ r ≡ begins state b ⌝ }
-{
-    let asked = state.asked;
-    let token = state.token;
-    asked.opened & tokens::is_between(token) & bytes::is_letter(b)
-}
-
-fn stepped(state: State, b: u8) -> State
+// The state after a byte, by what the byte does to the token.
+fn stepped(state: State, next: Next, b: u8) -> State
+    requires { ⌜ next ≡ stepOf (state .token) b ⌝ }
     ensures { λ r. ⌜ r ≡ stepped state b ⌝ }
 {
     let asked = state.asked;
     let token = state.token;
     let line = state.line;
-    if bytes::parts(b) {
+    let after = next.token;
+    if next.ended {
         return State {
             asked: finished(asked, line, token),
-            token: tokens::after(token, b),
+            token: after,
             line: line_after(line, b),
         };
     }
     State {
         asked: asked,
-        token: tokens::grown(token, b),
+        token: after,
         line: line,
     }
 }
 
-fn store_step(state: State, b: u8, numbers: &mut [i64])
-    requires { ⌜ length (now numbers) ≡ mostNumbers ⌝ }
-    ensures { λ _. ⌜ now (numbers .exit) ≡ runStepped state b (now (numbers .entry)) ⌝ }
+// What a chunk comes to; a question that has ended leaves its line, and nothing asked.
+fn reach(state: State, taken: usize, ended: bool) -> Reached
+    ensures { λ r. ⌜ r ≡ reachedOf state taken ended ⌝ }
 {
     let asked = state.asked;
-    let token = state.token;
-    if bytes::parts(b) {
-        store(asked.count, token, numbers);
+    if ended {
+        let token = state.token;
+        return Reached {
+            refusal: 0,
+            asked: asked,
+            state: State {
+                asked: nothing(),
+                token: token,
+                line: state.line,
+            },
+            taken,
+            ended,
+        };
+    }
+    Reached {
+        refusal: 0,
+        asked: asked,
+        state,
+        taken,
+        ended,
     }
 }
 
 fn read_all(state: State, chunk: &[u8], numbers: &mut [i64]) -> Reached
     requires { ⌜ length (now numbers) ≡ mostNumbers ⌝ }
-    ensures answer { λ r. ⌜ r ≡ record { refusal = 0; state = stateIn state (now (chunk .entry)); taken = takenIn state (now (chunk .entry)); ended = endedIn state (now (chunk .entry)) } ⌝ }
+    ensures answer { λ r. ⌜ r ≡ reachedOf (stateIn state (now (chunk .entry))) (takenIn state (now (chunk .entry))) (endedIn state (now (chunk .entry))) ⌝ }
     ensures run { λ r. ⌜ now (numbers .exit) ≡ runIn state (now (chunk .entry)) (now (numbers .entry)) ⌝ }
 {
-    let mut reached = state;
+    let mut state = state;
     let mut i = 0;
     while i < chunk.len() {
         let b = chunk[i];
-        if begins(reached, b) {
-            return Reached {
-                refusal: 0,
-                state: reached,
-                taken: i,
-                ended: true,
-            };
+        let asked = state.asked;
+        let token = state.token;
+        let next = tokens::step(token, b);
+        if asked.opened & next.word {
+            return reach(state, i, true);
         }
-        store_step(reached, b, numbers);
-        reached = stepped(reached, b);
+        store(next.ended, asked.count, token, numbers);
+        state = stepped(state, next, b);
         i += 1;
     }
-    Reached {
-        refusal: 0,
-        state: reached,
-        taken: i,
-        ended: false,
-    }
+    reach(state, i, false)
 }
 
-// The first state: line 1, nothing asked.
-pub fn start() -> State
-    ensures { λ r. ⌜ r ≡ startState ⌝ }
+// The input's end.
+fn end(state: State, numbers: &mut [i64]) -> Reached
+    requires { ⌜ length (now numbers) ≡ mostNumbers ⌝ }
+    ensures answer { λ r. ⌜ r ≡ endOf state ⌝ }
+    ensures run { λ r. ⌜ now (numbers .exit) ≡ stored (state .asked .count) (state .token) (now (numbers .entry)) ⌝ }
 {
-    State {
-        asked: nothing(),
-        token: Token::Between,
-        line: 1,
-    }
-}
-
-// Goes through the chunk up to the byte that begins the next question, which is not taken, or through all of it; or answers 1 and changes nothing.
-pub fn read(state: State, chunk: &[u8], numbers: &mut [i64]) -> Reached
-    ensures answer { λ r. ⌜ r ≡ readOf state (now (chunk .entry)) (now (numbers .entry)) ⌝ }
-    ensures run { λ r. ⌜ now (numbers .exit) ≡ readRun state (now (chunk .entry)) (now (numbers .entry)) ⌝ }
-{
-    if numbers.len() != MOST {
-        return Reached {
-            refusal: refusals::WRONG_LENGTH,
-            state,
-            taken: 0,
-            ended: false,
-        };
-    }
-    read_all(state, chunk, numbers)
-}
-
-// The input's end: the token that has begun ends, and so does the question that is open; or answers 1 and changes nothing.
-pub fn end(state: State, numbers: &mut [i64]) -> Reached
-    ensures answer { λ r. ⌜ r ≡ endOf state (now (numbers .entry)) ⌝ }
-    ensures run { λ r. ⌜ now (numbers .exit) ≡ endRun state (now (numbers .entry)) ⌝ }
-{
-    if numbers.len() != MOST {
-        return Reached {
-            refusal: refusals::WRONG_LENGTH,
-            state,
-            taken: 0,
-            ended: false,
-        };
-    }
     let asked = state.asked;
     let token = state.token;
     let line = state.line;
-    store(asked.count, token, numbers);
+    store(true, asked.count, token, numbers);
     let last = finished(asked, line, token);
-    Reached {
-        refusal: 0,
-        state: State {
-            asked: last,
-            token: Token::Between,
-            line: line,
-        },
-        taken: 0,
-        ended: last.opened,
-    }
-}
-
-// Once the question was answered: the same line, nothing asked.
-pub fn next(state: State) -> State
-    ensures { λ r. ⌜ r ≡ nextOf state ⌝ }
-{
-    let token = state.token;
-    State {
-        asked: nothing(),
-        token: token,
-        line: state.line,
-    }
+    let state = State {
+        asked: last,
+        token: Token::Between,
+        line: line,
+    };
+    reach(state, 0, last.opened)
 }

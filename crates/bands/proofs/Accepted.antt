@@ -9,7 +9,8 @@ use borrow.Fn.Kinds.{Dens, endedOf}
 use contract.Lifetimes.{Lfts}
 use denote.Ref.{now}
 use denote.Triple.Clauses.{AtExit}
-use Rattle.bands.specs.Bands.{placeOf}
+use Rattle.units.specs.Limits.{mostScore}
+use Rattle.bands.specs.Bands.{firstPlace}
 use Rattle.bands.specs.declared.Factored.{Factored}
 use Rattle.bands.proofs.Laws.{BandsFit, bands-pass, lookup-passes, First, first-is, factor-granted}
 use Rattle.bands.proofs.check.Reads as check
@@ -22,10 +23,10 @@ pub check-accepted : (κs : Lfts 2) (a : Dens κs check-kinds.ps) (x : ℕ) (s :
 check-accepted κs a x s p f = p ∙ bands-pass f
 
 pub factor-accepted : (κs : Lfts 2) (a : Dens κs factor-kinds.ps) (x : Factored) (s : AtExit (endedOf 2 factor-kinds.ps factor-kinds.r) κs) → factor.Post κs a x s
-    → BandsFit (now (a .0)) (now (a .1 .0)) → a .1 .1 .0 ≤ 100 →
-    let place = placeOf (now (a .0)) (pos (a .1 .1 .0)) in
+    → BandsFit (now (a .0)) (now (a .1 .0)) → a .1 .1 .0 ≤ mostScore →
+    let place = firstPlace (now (a .0)) (pos (a .1 .1 .0)) in
     (x ≡ record { refusal = 0; factor = getD (now (a .1 .0)) place (pos 0) }) × First (now (a .0)) (now (a .1 .0)) (a .1 .1 .0) place
 factor-accepted κs a x s p f h = (
   p ∙ factor-granted (now (a .0)) (now (a .1 .0)) (a .1 .1 .0) (lookup-passes (now (a .0)) (now (a .1 .0)) (a .1 .1 .0) (bands-pass f) h),
-  first-is (record { bands = f; rating = le-leb (a .1 .1 .0) 100 h }),
+  first-is (record { bands = f; rating = le-leb (a .1 .1 .0) mostScore h }),
 )

@@ -1,8 +1,6 @@
 -- What belongs to no one function; `pub` are the laws that crates above cite.
 mod Steps
 pub mod Laws
-mod Gathering
-mod Lent
 mod Determined
-mod RefusedKeeps
+pub mod RefusedKeeps
 pub mod Accepted

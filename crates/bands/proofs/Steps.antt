@@ -7,24 +7,24 @@ use lib.IntN.{ℤ, pos}
 use lib.ListN.{length, getD, drop}
 use lib.Signed.{leZ}
 use Rattle.whole.proofs.Runs.{rest, no-rest}
-use Rattle.bands.specs.Bands.{placeOf}
+use Rattle.bands.specs.Bands.{firstPlace}
 
 module _ (t : ℤ) (ts : List ℤ) (rate : ℤ) where
-  pub place-first : leZ t rate ≡ true → placeOf (t ∷ ts) rate ≡ 0
-  unfolding placeOf
-  place-first e = rw (e, placeOf)
+  pub place-first : leZ t rate ≡ true → firstPlace (t ∷ ts) rate ≡ 0
+  unfolding firstPlace
+  place-first e = rw (e, firstPlace)
 
-  pub place-later : leZ t rate ≡ false → placeOf (t ∷ ts) rate ≡ suc (placeOf ts rate)
-  unfolding placeOf
-  place-later e = rw (e, placeOf)
+  pub place-later : leZ t rate ≡ false → firstPlace (t ∷ ts) rate ≡ suc (firstPlace ts rate)
+  unfolding firstPlace
+  place-later e = rw (e, firstPlace)
 
 module _ (ts : List ℤ) (i : ℕ) (rate : ℤ) where
-  pub place-here : i < length ts → leZ (getD ts i (pos 0)) rate ≡ true → placeOf (drop i ts) rate ≡ 0
+  pub place-here : i < length ts → leZ (getD ts i (pos 0)) rate ≡ true → firstPlace (drop i ts) rate ≡ 0
   place-here h e = rw (rest ts i (pos 0) h) (place-first _ _ rate e)
 
-  pub place-on : i < length ts → leZ (getD ts i (pos 0)) rate ≡ false → placeOf (drop i ts) rate ≡ suc (placeOf (drop (i + 1) ts) rate)
+  pub place-on : i < length ts → leZ (getD ts i (pos 0)) rate ≡ false → firstPlace (drop i ts) rate ≡ suc (firstPlace (drop (i + 1) ts) rate)
   place-on h e = rw (rest ts i (pos 0) h) (place-later _ _ rate e)
 
-  pub place-none : length ts ≤ i → placeOf (drop i ts) rate ≡ 0
-  unfolding placeOf
-  place-none h = rw (no-rest ts i h, placeOf)
+  pub place-none : length ts ≤ i → firstPlace (drop i ts) rate ≡ 0
+  unfolding firstPlace
+  place-none h = rw (no-rest ts i h, firstPlace)

@@ -1,4 +1,2 @@
--- The quality bands: on two lists of numbers, on a list of records, and how the second comes down to the first.
+-- The quality bands, on two lists of numbers.
 pub mod Bands
-pub mod Records
-pub mod Gathered

@@ -1,41 +1,37 @@
 // The ways to run the calls: on runs in place, and on a month by value.
 use crate::draw;
-use crate::draw::Call;
-use board::Head;
+use crate::draw::Drawn;
+use head::Head;
 use month::Month;
 use units::Dollars;
+use units::limits;
 
-fn call_in(head: Head, filled: &mut [bool], amounts: &mut [i64], call: Call) -> u8 {
+fn call_in(head: Head, marks: &mut [bool], amounts: &mut [i64], call: Drawn) -> u8 {
     let amount = Dollars(call.amount);
+    let place = head::place_of(head.days, call.day, call.hour);
     if call.kind < 3 {
-        return board::post_in(head, filled, amounts, call.day, call.hour, amount);
+        return board::post_in(head, marks, amounts, place, amount);
     }
     if call.kind < 5 {
-        return board::replace_in(head, filled, amounts, call.day, call.hour, amount);
+        return board::replace_in(head, marks, amounts, place, amount);
     }
-    board::withdraw_in(head, filled, amounts, call.day, call.hour)
+    board::withdraw_in(head, marks, amounts, place)
 }
 
-fn chosen(ordered: bool, x: u64, i: u64) -> Call {
+fn chosen(ordered: bool, x: u64, i: u64) -> Drawn {
     if ordered {
         return draw::in_order(i);
     }
     draw::by_chance(x)
 }
 
-fn calls_in(
-    head: Head,
-    filled: &mut [bool],
-    amounts: &mut [i64],
-    ordered: bool,
-    calls: u64,
-) -> u64 {
+fn calls_in(head: Head, marks: &mut [bool], amounts: &mut [i64], ordered: bool, calls: u64) -> u64 {
     let mut x = 1;
     let mut sum = 0;
     let mut i = 0;
     while i < calls {
         x = draw::next(x);
-        let k = call_in(head, filled, amounts, chosen(ordered, x, i));
+        let k = call_in(head, marks, amounts, chosen(ordered, x, i));
         sum = draw::mixed(sum, k as u64);
         i += 1;
     }
@@ -48,12 +44,12 @@ pub(crate) fn in_place(days: u8, closed: bool, ordered: bool, calls: u64) -> u64
         closed: closed,
         fee: Dollars(0),
     };
-    let mut filled = [false; Month::PLACES];
-    let mut amounts = [0; Month::PLACES];
-    calls_in(head, &mut filled, &mut amounts, ordered, calls)
+    let mut marks = [false; limits::PLACES];
+    let mut amounts = [0; limits::PLACES];
+    calls_in(head, &mut marks, &mut amounts, ordered, calls)
 }
 
-fn called(m: Month, call: Call) -> month::Booked {
+fn called(m: Month, call: Drawn) -> month::Booked {
     let amount = Dollars(call.amount);
     if call.kind < 3 {
         return m.post(call.day, call.hour, amount);

@@ -3,7 +3,7 @@ pub const MODULUS: u64 = 4_294_967_296;
 
 // A call: a post (0 to 2), a replace (3, 4) or a withdraw (5 to 7), on a day of 0 to 31 and an hour of 0 to 24, with an amount that now
 // and then is past its limits.
-pub struct Call {
+pub struct Drawn {
     pub kind: u8,
     pub day: u8,
     pub hour: u8,
@@ -14,8 +14,8 @@ pub(crate) fn next(x: u64) -> u64 {
     (x % MODULUS * 1_664_525 + 1_013_904_223) % MODULUS
 }
 
-pub(crate) fn by_chance(x: u64) -> Call {
-    Call {
+pub(crate) fn by_chance(x: u64) -> Drawn {
+    Drawn {
         kind: (x / 16_777_216 % 8) as u8,
         day: (x / 134_217_728 % 32) as u8,
         hour: (x / 65_536 % 256 * 25 / 256) as u8,
@@ -25,8 +25,8 @@ pub(crate) fn by_chance(x: u64) -> Call {
 
 // The calls in order: 16 hours of each day are posted, posted again, replaced and withdrawn. Shifts and masks find a call, so that a turn of
 // the loop is little else than the call.
-pub(crate) fn in_order(i: u64) -> Call {
-    Call {
+pub(crate) fn in_order(i: u64) -> Drawn {
+    Drawn {
         kind: (i / 512 % 4 * 2) as u8,
         day: (i / 16 % 32) as u8,
         hour: (i % 16) as u8,

@@ -1,5 +1,4 @@
 // Lines are made, read, and written.
-ghost use Prim.Native.Nat.{_≤_};
 ghost use mathlib.Core.Path.{_≡_};
 ghost use lib.ListN.{length};
 use crate::draw;

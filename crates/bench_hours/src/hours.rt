@@ -2,6 +2,7 @@
 use crate::readings;
 use crate::sums;
 use hour::Settlement;
+use hour::Shift;
 use hour::Terms;
 use units::Kilowatts;
 
@@ -10,16 +11,17 @@ const THRESHOLDS: [i64; 7] = [95, 94, 93, 92, 91, 70, 0];
 
 const FACTORS: [i64; 7] = [10, 8, 6, 4, 2, 0, -10];
 
-// Hundredths of a dollar.
-const CLEARING: i64 = 44_000;
-
-const PERFORMANCE: i64 = 35_000;
-
-fn terms_of(capacity: u64, targets: [i64; 5]) -> Terms {
+// Prices are hundredths of a dollar.
+fn terms_of(capacity: u64) -> Terms {
     Terms {
         capacity: Kilowatts((capacity % 1_000_000) as i64),
-        clearing: CLEARING,
-        performance: PERFORMANCE,
+        clearing: 44_000,
+        performance: 35_000,
+    }
+}
+
+fn shift_of(targets: [i64; 5]) -> Shift {
+    Shift {
         discharge: 50_000,
         charge: 30_000,
         targets: targets,
@@ -31,21 +33,21 @@ fn settled(
     powers: &[i64],
     frequencies: &[i64],
     terms: Terms,
+    shift: Shift,
     scores: &mut [u8],
 ) -> Settlement {
     if shifting {
-        return hour::hour(powers, frequencies, terms, &THRESHOLDS, &FACTORS, scores);
+        return hour::hour(
+            powers,
+            frequencies,
+            terms,
+            shift,
+            &THRESHOLDS,
+            &FACTORS,
+            scores,
+        );
     }
-    hour::dreg_hour(
-        powers,
-        frequencies,
-        terms.capacity,
-        CLEARING,
-        PERFORMANCE,
-        &THRESHOLDS,
-        &FACTORS,
-        scores,
-    )
+    hour::dreg_hour(powers, frequencies, terms, &THRESHOLDS, &FACTORS, scores)
 }
 
 // The check sum with an hour more.
@@ -55,9 +57,10 @@ fn with_hour(
     powers: &[i64],
     frequencies: &[i64],
     terms: Terms,
+    shift: Shift,
     scores: &mut [u8],
 ) -> u64 {
-    let s = settled(shifting, powers, frequencies, terms, scores);
+    let s = settled(shifting, powers, frequencies, terms, shift, scores);
     sums::with_settlement(sum, s)
 }
 
@@ -76,6 +79,7 @@ fn hours(
     transfers: &[i64],
     capacity: u64,
     terms: Terms,
+    shift: Shift,
     scores: &mut [u8],
     count: u64,
 ) -> u64 {
@@ -85,7 +89,7 @@ fn hours(
     while n < count {
         x = readings::next(x);
         redraw(powers, n, x, capacity, transfers);
-        sum = with_hour(sum, shifting, powers, frequencies, terms, scores);
+        sum = with_hour(sum, shifting, powers, frequencies, terms, shift, scores);
         n += 1;
     }
     sums::with_scores(sum, scores)
@@ -105,7 +109,8 @@ fn run(shifting: bool, capacity: u64, targets: [i64; 5], count: u64) -> u64 {
         &frequencies,
         &transfers,
         capacity,
-        terms_of(capacity, targets),
+        terms_of(capacity),
+        shift_of(targets),
         &mut scores,
         count,
     )

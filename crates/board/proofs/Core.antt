@@ -1,93 +1,104 @@
--- The calls in place: a call refused at the front, one refused by its place or its amount, and one let through, each once for the three calls that touch a place; and
--- a head's call is the board's. By the order of refusals. Assumes nothing.
+-- The calls in place: what a call that is refused leaves, and one that is let through, each once for the three calls that touch a place; and what an open leaves.
+-- By the number. Assumes nothing.
 use Prim.Native.Nat.{ℕ}
-use mathlib.Core.Path.{_≡_, refl, sym, ap, _∙_}
-use mathlib.Core.Bool.{Bool, true, false, not}
-use mathlib.Core.List.{List, []}
+use mathlib.Core.Path.{_≡_, refl, sym, ap, ap₂, _∙_}
+use mathlib.Core.Bool.{Bool, true, false}
+use mathlib.Core.List.{List, [], _∷_}
+use native.Mathlib.Omega.{arith}
 use lib.Dec.{eqb}
-use lib.IntN.{ℤ}
-use Rattle.whole.specs.Choice.{pick, unless, orElse, kept}
-use Rattle.whole.proofs.Choice.{unless-then, or-first, or-rest, kept-new, kept-old}
-use Rattle.units.specs.Refusals.{wrongLength, badMoney, notReachable, monthClosed}
-use Rattle.history.specs.Rules.{Call, inside, rulingAt}
-use Rattle.history.specs.Board.{Board, runsFit, feesFit, rulingOn, nextOn, ruledIn, handedIn}
-use Rattle.board.specs.Board.{Fee, Item, monthRules, boardIn, frontOf, headedOf, headRefusal}
-use Rattle.board.specs.declared.Head.{Head}
+use lib.IntN.{ℤ, pos}
+use lib.ListN.{length, set, replicate}
+use borrow.Author.Tests.{eqb-true}
+use Rattle.whole.specs.Choice.{pick, unless}
+use Rattle.whole.specs.Whole.{inRange}
+use Rattle.whole.proofs.Choice.{by-test, and-both, all-passed, kept-new, kept-old}
+use Rattle.units.specs.Limits.{isDays, monthPlaces}
+use Rattle.units.specs.Refusals.{wrongLength, badMoney, notInMonth}
+use Rattle.history.specs.Rules.{Deed, left}
+use Rattle.history.specs.Board.{Board, fresh, runsFit, totalOn, openRuling, openLeft, ledgerRefusal, ruledAt, handedAt, totalIn}
+use Rattle.head.specs.Rules.{Fee, Item, amountItem, monthRules}
+use Rattle.head.specs.Head.{boardIn, freshHead, openedHead}
+use Rattle.head.specs.declared.Head.{Head}
+use Rattle.head.specs.declared.Headed.{Headed}
+use Rattle.head.specs.declared.Place.{Place}
+use Rattle.board.specs.Board.{placeRuled, placeHanded, openedIn, toldOf}
 
--- what is asked at the front, and then the rest
-front-then : (head : Head) (fs : List Bool) (xs : List ℤ) (d x rest : ℕ) → frontOf head fs xs d x rest ≡ orElse (frontOf head fs xs d x 0) rest
-front-then head fs xs d x rest =
-    let R = monthRules (head .days) in
-    let b = boardIn head fs xs in
-    let at = unless-then (inside R d x) 5 0 rest in
-    let running = ap (unless (not (head .closed)) monthClosed) at ∙ unless-then (not (head .closed)) 8 _ rest in
-    let seen = ap (unless (feesFit R b) notReachable) running ∙ unless-then (feesFit R b) 21 _ rest in
-    ap (unless (runsFit R b) wrongLength) seen ∙ unless-then (runsFit R b) 0 _ rest
+module _ (head : Head) (ms : List Bool) (xs : List ℤ) (place : Place) (deed : Deed Item) (k : ℕ) (is : k ≡ placeRuled head ms xs place deed) where
+  pub turned-away : (k ≡ 0 → ⊥) → boardIn head ms xs ≡ placeHanded head ms xs place deed
+  unfolding handedAt
+  turned-away f = sym (kept-old _ (boardIn head ms xs) (λ z. f (is ∙ z)))
 
--- a call c on the hour x of the day d, whose ruling is the front's and then `rest`
-module _ (head : Head) (fs : List Bool) (xs : List ℤ) (c : Call Fee Item) (d x rest : ℕ)
-    (is : rulingOn (monthRules (head .days)) (boardIn head fs xs) c ≡ rulingAt (monthRules (head .days)) (head .closed) d x rest) where
-  abbrev pub Came : ℕ → Board Fee Bool ℤ → Type 0
-  Came k next = (k ≡ ruledIn (monthRules (head .days)) (boardIn head fs xs) c) × (next ≡ handedIn (monthRules (head .days)) (boardIn head fs xs) c)
+  pub let-through : k ≡ 0 → (ns : List Bool) (ys : List ℤ) → ns ≡ set ms (place .at) (left (monthRules (head .days)) deed .0)
+      → ys ≡ set xs (place .at) (left (monthRules (head .days)) deed .1) → boardIn head ns ys ≡ placeHanded head ms xs place deed
+  unfolding handedAt
+  let-through z ns ys marks amounts = ap₂ (boardIn head) marks amounts ∙ sym (kept-new _ (boardIn head ms xs) (sym is ∙ z))
 
-  number : ruledIn (monthRules (head .days)) (boardIn head fs xs) c ≡ orElse (frontOf head fs xs d x 0) rest
-  unfolding ruledIn
-  number = rw is (front-then head fs xs d x rest)
+-- an open: its number is the ruling, and both runs are cleared or left
+module _ (days : ℕ) (ms : List Bool) (xs : List ℤ) where
+  abbrev before-open : Board Fee Bool ℤ
+  before-open = boardIn (freshHead days) ms xs
 
-  turned : (k : ℕ) → k ≡ ruledIn (monthRules (head .days)) (boardIn head fs xs) c → (k ≡ 0 → ⊥) → Came k (boardIn head fs xs)
-  unfolding handedIn
-  turned k e f = (e, sym (kept-old _ (boardIn head fs xs) (λ z. f (e ∙ z))))
+  pub open-number : openedIn days ms xs .refusal ≡ openRuling (monthRules days) before-open
+  unfolding openedIn openedHead openRuling
+  open-number =
+      by-test (runsFit (monthRules days) before-open)
+      (λ (t : runsFit (monthRules days) before-open ≡ true). rw t)
+      (λ (t : runsFit (monthRules days) before-open ≡ false). rw t)
 
-  -- 1, 22, 9 or 6
-  pub turned-front : (k : ℕ) → k ≡ frontOf head fs xs d x 0 → (k ≡ 0 → ⊥) → Came k (boardIn head fs xs)
-  turned-front k e f = turned k (e ∙ sym (number ∙ or-first rest (λ z. f (e ∙ z)))) f
+  pub open-refused : (openedIn days ms xs .refusal ≡ 0 → ⊥) → before-open ≡ openLeft (monthRules days) before-open
+  unfolding openLeft
+  open-refused f = sym (kept-old _ before-open (λ z. f (open-number ∙ z)))
 
-  module _ (k : ℕ) (e : k ≡ frontOf head fs xs d x 0) (z : k ≡ 0) where
-    by-rest : ruledIn (monthRules (head .days)) (boardIn head fs xs) c ≡ rest
-    by-rest = number ∙ or-rest rest (sym e ∙ z)
+  -- by its two tests
+  abbrev headBy : Bool → Bool → Headed
+  headBy t d = pick t (record { refusal = unless d notInMonth 0; head = pick d (freshHead days) (freshHead 0) }) (record { refusal = wrongLength; head = freshHead 0 })
 
-    -- 3, 7 or 8
-    pub turned-rest : (n : ℕ) → n ≡ rest → (n ≡ 0 → ⊥) → Came n (boardIn head fs xs)
-    turned-rest n r f = turned n (r ∙ sym by-rest) f
+  pub open-head : openedIn days ms xs .refusal ≡ 0 → openedIn days ms xs .head ≡ freshHead days
+  unfolding openedIn openedHead
+  open-head e = go (runsFit (monthRules days) before-open) (isDays days) e
+    where
+      go : (t d : Bool) → headBy t d .refusal ≡ 0 → headBy t d .head ≡ freshHead days
+      go true true e = refl
+      go true false e = absurd (omega arith)
+      go false d e = absurd (omega arith)
 
-    pub let-through : (n : ℕ) → n ≡ rest → n ≡ 0 → (gs : List Bool) (ys : List ℤ) → boardIn head gs ys ≡ nextOn (monthRules (head .days)) (boardIn head fs xs) c → Came 0 (boardIn head gs ys)
-    unfolding handedIn
-    let-through n r o gs ys next =
-        let none = by-rest ∙ sym r ∙ o in
-        (sym none, next ∙ sym (kept-new _ (boardIn head fs xs) none))
+  pub open-none : (openedIn days ms xs .refusal ≡ 0 → ⊥) → openedIn days ms xs .head ≡ freshHead 0
+  unfolding openedIn openedHead
+  open-none f =
+      by-test (runsFit (monthRules days) before-open)
+      (λ (t : runsFit (monthRules days) before-open ≡ true).
+      by-test (isDays days) (λ (d : isDays days ≡ true). absurd (f (rw (t, d)))) (λ (d : isDays days ≡ false). rw (t, d)))
+      (λ (t : runsFit (monthRules days) before-open ≡ false). rw t)
 
--- a call that touches no place, at a head whose runs are the ledger's
-pub record Heads (head : Head) (fs : List Bool) (xs : List ℤ) (c : Call Fee Item) : Type 0 where
-  pub number : headedOf head c .refusal ≡ ruledIn (monthRules (head .days)) (boardIn head fs xs) c
-  pub board : boardIn (headedOf head c .head) fs xs ≡ handedIn (monthRules (head .days)) (boardIn head fs xs) c
-  pub days : headedOf head c .head .days ≡ head .days
+  pub open-cleared : openedIn days ms xs .refusal ≡ 0
+      → (replicate (length ms) false ≡ openLeft (monthRules days) before-open .marks) × (replicate (length xs) (pos 0) ≡ openLeft (monthRules days) before-open .amounts)
+  unfolding openLeft openRuling fresh
+  open-cleared e =
+      let z = sym open-number ∙ e in
+      let runs = all-passed ((runsFit (monthRules days) before-open, wrongLength) ∷ (isDays days, notInMonth) ∷ []) refl z .0 in
+      let long = and-both (eqb (length ms) monthPlaces) (eqb (length xs) monthPlaces) runs in
+      let new = sym (kept-new (fresh (monthRules days)) before-open z) in (
+        ap (λ (n : ℕ). replicate n false) (eqb-true (length ms) monthPlaces (long .0)) ∙ ap (λ (b : Board Fee Bool ℤ). b .marks) new,
+        ap (λ (n : ℕ). replicate n (pos 0)) (eqb-true (length xs) monthPlaces (long .1)) ∙ ap (λ (b : Board Fee Bool ℤ). b .amounts) new,
+      )
 
-head-kept : (head : Head) (k : ℕ) (closed : Bool) (fee : Fee → ℤ) (fs : List Bool) (xs : List ℤ) →
-    let old = boardIn head [] [] in
-    let new : Board Fee Bool ℤ = record { closed = closed; fee = fee; marks = []; items = [] } in
-    _≡_ {A = Board Fee Bool ℤ} (record { closed = kept k new old .closed; fee = kept k new old .fee; marks = fs; items = xs })
-    (kept k (record { closed = closed; fee = fee; marks = fs; items = xs }) (boardIn head fs xs))
-head-kept head k closed fee fs xs = go (eqb k 0)
-  where
-    go : (t : Bool) →
-        let old = boardIn head [] [] in
-        let new : Board Fee Bool ℤ = record { closed = closed; fee = fee; marks = []; items = [] } in
-        _≡_ {A = Board Fee Bool ℤ} (record { closed = pick t new old .closed; fee = pick t new old .fee; marks = fs; items = xs })
-        (pick t (record { closed = closed; fee = fee; marks = fs; items = xs }) (boardIn head fs xs))
-    go true = refl
-    go false = refl
+-- the total: a refusal has no amount beside it
+module _ (days : ℕ) (b : Board Fee Bool ℤ) where
+  pub total-away : (k : ℕ) → k ≡ ledgerRefusal (monthRules days) b → (k ≡ 0 → ⊥) → toldOf (k, pos 0) ≡ toldOf (totalIn (monthRules days) b)
+  unfolding totalIn
+  total-away k e f = let none = sym (kept-old (totalOn (monthRules days) b) (pos 0) (λ z. f (e ∙ z))) in λ i. toldOf (e i, none i)
 
-module _ (head : Head) (fs : List Bool) (xs : List ℤ) (runs : runsFit (monthRules (head .days)) (boardIn head fs xs) ≡ true) where
-  pub heads-fee : (fee : ℤ) → Heads head fs xs (Call.lossFee tt fee)
-  unfolding headedOf rulingOn nextOn ruledIn handedIn
-  heads-fee fee =
-      record { number = rw runs; board = rw runs (head-kept head (headRefusal head (Call.lossFee tt fee)) (head .closed) (λ _. fee) fs xs); days = refl }
+  pub total-told : ledgerRefusal (monthRules days) b ≡ 0 → toldOf (0, totalOn (monthRules days) b) ≡ toldOf (totalIn (monthRules days) b)
+  unfolding totalIn
+  total-told z = let all = sym (kept-new (totalOn (monthRules days) b) (pos 0) z) in λ i. toldOf (sym z i, all i)
 
-  pub heads-close : Heads head fs xs Call.close
-  unfolding headedOf rulingOn nextOn ruledIn handedIn
-  heads-close = record { number = rw runs; board = rw runs (head-kept head (headRefusal head Call.close) true (λ _. head .fee .0) fs xs); days = refl }
+-- a withdrawal is refused as a replacement by 0 is: no ledger refuses that amount
+pub withdrawal : (head : Head) (ms : List Bool) (xs : List ℤ) (place : Place) (k : ℕ)
+    → k ≡ placeRuled head ms xs place (Deed.replaces (amountItem (pos 0))) → k ≡ placeRuled head ms xs place Deed.withdraws
+unfolding ruledAt inRange
+withdrawal head ms xs place k e = e
 
--- an amount or a fee is not refused just where its range test passes
+-- an amount is not refused just where its range test passes
 pub test-is : (t : Bool) → eqb (unless t badMoney 0) 0 ≡ t
 test-is true = refl
 test-is false = refl

@@ -6,11 +6,11 @@ use lib.IntN.{ℤ}
 use denote.Ref.{now}
 use Rattle.whole.specs.Determined.{Determined, LeftDetermined}
 use Rattle.history.specs.Board.{Board}
-use Rattle.board.specs.Board.{Fee}
-use Rattle.board.proofs.loss_fee_in.Reads as loss-fee-in-reads
-use Rattle.board.proofs.loss_fee_in.Kinds as loss-fee-in-kinds
-use Rattle.board.proofs.close_in.Reads as close-in-reads
-use Rattle.board.proofs.close_in.Kinds as close-in-kinds
+use Rattle.head.specs.Rules.{Fee}
+use Rattle.board.proofs.open_in.Reads as open-in-reads
+use Rattle.board.proofs.open_in.Kinds as open-in-kinds
+use Rattle.board.proofs.total_in.Reads as total-in-reads
+use Rattle.board.proofs.total_in.Kinds as total-in-kinds
 use Rattle.board.proofs.post_in.Reads as post-in-reads
 use Rattle.board.proofs.post_in.Kinds as post-in-kinds
 use Rattle.board.proofs.replace_in.Reads as replace-in-reads
@@ -22,20 +22,14 @@ use Rattle.board.proofs.check_in.Kinds as check-in-kinds
 use Rattle.board.proofs.hour_in.Reads as hour-in-reads
 use Rattle.board.proofs.hour_in.Kinds as hour-in-kinds
 
-loss-fee-in-determined : Determined 0 loss-fee-in-kinds.ps loss-fee-in-kinds.r loss-fee-in-reads.Post
-loss-fee-in-determined κs a x y s t p q = p ∙ sym q
-
-close-in-determined : Determined 0 close-in-kinds.ps close-in-kinds.r close-in-reads.Post
-close-in-determined κs a x y s t p q = p ∙ sym q
-
 post-in-determined : Determined 2 post-in-kinds.ps post-in-kinds.r post-in-reads.Post
 post-in-determined κs a x y s t p q = p .0 ∙ sym (q .0)
 
 post-in-marks-determined : LeftDetermined 2 post-in-kinds.ps post-in-kinds.r (λ κs s. now (s .1 .0)) post-in-reads.Post
 post-in-marks-determined κs a x y s t p q = ap (λ (b : Board Fee Bool ℤ). b .marks) (p .1 ∙ sym (q .1))
 
-post-in-items-determined : LeftDetermined 2 post-in-kinds.ps post-in-kinds.r (λ κs s. now (s .1 .1 .0)) post-in-reads.Post
-post-in-items-determined κs a x y s t p q = ap (λ (b : Board Fee Bool ℤ). b .items) (p .1 ∙ sym (q .1))
+post-in-amounts-determined : LeftDetermined 2 post-in-kinds.ps post-in-kinds.r (λ κs s. now (s .1 .1 .0)) post-in-reads.Post
+post-in-amounts-determined κs a x y s t p q = ap (λ (b : Board Fee Bool ℤ). b .amounts) (p .1 ∙ sym (q .1))
 
 replace-in-determined : Determined 2 replace-in-kinds.ps replace-in-kinds.r replace-in-reads.Post
 replace-in-determined κs a x y s t p q = p .0 ∙ sym (q .0)
@@ -43,8 +37,8 @@ replace-in-determined κs a x y s t p q = p .0 ∙ sym (q .0)
 replace-in-marks-determined : LeftDetermined 2 replace-in-kinds.ps replace-in-kinds.r (λ κs s. now (s .1 .0)) replace-in-reads.Post
 replace-in-marks-determined κs a x y s t p q = ap (λ (b : Board Fee Bool ℤ). b .marks) (p .1 ∙ sym (q .1))
 
-replace-in-items-determined : LeftDetermined 2 replace-in-kinds.ps replace-in-kinds.r (λ κs s. now (s .1 .1 .0)) replace-in-reads.Post
-replace-in-items-determined κs a x y s t p q = ap (λ (b : Board Fee Bool ℤ). b .items) (p .1 ∙ sym (q .1))
+replace-in-amounts-determined : LeftDetermined 2 replace-in-kinds.ps replace-in-kinds.r (λ κs s. now (s .1 .1 .0)) replace-in-reads.Post
+replace-in-amounts-determined κs a x y s t p q = ap (λ (b : Board Fee Bool ℤ). b .amounts) (p .1 ∙ sym (q .1))
 
 withdraw-in-determined : Determined 2 withdraw-in-kinds.ps withdraw-in-kinds.r withdraw-in-reads.Post
 withdraw-in-determined κs a x y s t p q = p .0 ∙ sym (q .0)
@@ -52,11 +46,23 @@ withdraw-in-determined κs a x y s t p q = p .0 ∙ sym (q .0)
 withdraw-in-marks-determined : LeftDetermined 2 withdraw-in-kinds.ps withdraw-in-kinds.r (λ κs s. now (s .1 .0)) withdraw-in-reads.Post
 withdraw-in-marks-determined κs a x y s t p q = ap (λ (b : Board Fee Bool ℤ). b .marks) (p .1 ∙ sym (q .1))
 
-withdraw-in-items-determined : LeftDetermined 2 withdraw-in-kinds.ps withdraw-in-kinds.r (λ κs s. now (s .1 .1 .0)) withdraw-in-reads.Post
-withdraw-in-items-determined κs a x y s t p q = ap (λ (b : Board Fee Bool ℤ). b .items) (p .1 ∙ sym (q .1))
+withdraw-in-amounts-determined : LeftDetermined 2 withdraw-in-kinds.ps withdraw-in-kinds.r (λ κs s. now (s .1 .1 .0)) withdraw-in-reads.Post
+withdraw-in-amounts-determined κs a x y s t p q = ap (λ (b : Board Fee Bool ℤ). b .amounts) (p .1 ∙ sym (q .1))
 
 hour-in-determined : Determined 1 hour-in-kinds.ps hour-in-kinds.r hour-in-reads.Post
 hour-in-determined κs a x y s t p q = p ∙ sym q
 
 check-in-determined : Determined 1 check-in-kinds.ps check-in-kinds.r check-in-reads.Post
 check-in-determined κs a x y s t p q = p ∙ sym q
+
+total-in-determined : Determined 1 total-in-kinds.ps total-in-kinds.r total-in-reads.Post
+total-in-determined κs a x y s t p q = p ∙ sym q
+
+open-in-determined : Determined 2 open-in-kinds.ps open-in-kinds.r open-in-reads.Post
+open-in-determined κs a x y s t p q = p .0 ∙ sym (q .0)
+
+open-in-marks-determined : LeftDetermined 2 open-in-kinds.ps open-in-kinds.r (λ κs s. now (s .1 .0)) open-in-reads.Post
+open-in-marks-determined κs a x y s t p q = p .1 .0 ∙ sym (q .1 .0)
+
+open-in-amounts-determined : LeftDetermined 2 open-in-kinds.ps open-in-kinds.r (λ κs s. now (s .1 .1 .0)) open-in-reads.Post
+open-in-amounts-determined κs a x y s t p q = p .1 .1 ∙ sym (q .1 .1)

@@ -1,2 +1,3 @@
 -- The month ledger in place.
 pub mod Board
+pub mod Inner

@@ -1,40 +1,23 @@
-// The month ledger's calls in place, on two lent runs (filled marks and amounts, in dollars) with the head by value. Anything may be lent: a call
-// refuses runs that are not the ledger's by their lengths (1) and a head that no run of calls hands back (22); `check_in` tests the places too.
+// The month ledger's calls in place, on two lent runs (marks and amounts, in dollars) with the head by value. Anything may be lent: a call
+// refuses runs that are not the ledger's by their lengths (1) and a head that no run of calls hands back (22); `check_in` and `total_in` test the places too.
 ghost use mathlib.Core.Path.{_≡_};
 ghost use mathlib.Core.Bool.{false, _&&_};
-ghost use mathlib.Core.List.{[]};
 ghost use lib.Dec.{eqb};
 ghost use lib.IntN.{pos};
-ghost use lib.ListN.{length, getD, set};
-ghost use Rattle.whole.specs.Choice.{unless, orElse};
-ghost use Rattle.history.specs.Rules.{Call, inside};
-ghost use Rattle.history.specs.Board.{feesFit, told, ledgerRefusal, ruledIn, handedIn, hourIn};
-ghost use Rattle.board.specs.Board.{amountItem, amountRefusal, feeRefusal, isDays, monthRules, placeOf, dollars, boardIn, frontOf, headedOf, toldOf, placeFits, placesFit};
+ghost use lib.ListN.{length, getD, set, replicate};
+ghost use Rattle.units.specs.Limits.{monthPlaces};
+ghost use Rattle.history.specs.Rules.{Deed, deedRuling};
+ghost use Rattle.history.specs.Board.{told, openLeft, ledgerRefusal, hourIn, totalIn};
+ghost use Rattle.head.specs.Rules.{amountItem, amountRefusal, monthRules};
+ghost use Rattle.head.specs.Head.{boardIn, freshHead};
+ghost use Rattle.board.specs.Board.{placeRuled, placeHanded, openedIn, toldOf};
+ghost use Rattle.board.specs.Inner.{deedOf, openedOn, placeFits, placesFit};
+use head::Head;
+use head::Headed;
+use head::Place;
 use units::Dollars;
+use units::limits;
 use units::refusals;
-
-// The places of a month of 31 days.
-pub const PLACES: usize = 744;
-
-// An amount's limits, and the largest loss fee.
-pub const LEAST: i64 = -1_000_000_000;
-
-pub const MOST: i64 = 1_000_000_000;
-
-pub const FEE: i64 = 100_000_000_000;
-
-// A month without its places.
-pub struct Head {
-    pub days: u8,
-    pub closed: bool,
-    pub fee: Dollars,
-}
-
-// What a call on the head answers: its refusal, and the head that it hands back.
-pub struct Headed {
-    pub refusal: u8,
-    pub head: Head,
-}
 
 // What a read-out answers.
 pub struct Told {
@@ -42,66 +25,23 @@ pub struct Told {
     pub amount: Dollars,
 }
 
-fn is_days(days: u8) -> bool
-    ensures { λ r. ⌜ r ≡ isDays days ⌝ }
-{
-    (28 <= days) & (days <= 31)
-}
+// ---- the places
 
-fn in_month(days: u8, day: u8, hour: u8) -> bool
-    ensures { λ r. ⌜ r ≡ inside (monthRules days) day hour ⌝ }
+// Past the end no place is filled, and nothing is written.
+fn mark_at(marks: &[bool], at: usize) -> bool
+    ensures { λ r. ⌜ r ≡ getD (now (marks .entry)) at false ⌝ }
 {
-    (1 <= day) & (day <= days) & (hour < 24)
-}
-
-fn amount_refusal(amount: Dollars) -> u8
-    ensures { λ r. ⌜ r ≡ amountRefusal (amount .0) ⌝ }
-{
-    let a = amount.0;
-    whole::unless(whole::within(a, LEAST, MOST), refusals::BAD_MONEY, 0)
-}
-
-fn fee_refusal(fee: Dollars) -> u8
-    ensures { λ r. ⌜ r ≡ feeRefusal (fee .0) ⌝ }
-{
-    let a = fee.0;
-    whole::unless(whole::within(a, 0, FEE), refusals::BAD_MONEY, 0)
-}
-
-fn place_of(day: u8, hour: u8) -> usize
-    ensures { λ r. ⌜ r ≡ placeOf day hour ⌝ }
-{
-    if day == 0 {
-        return hour as usize;
-    }
-    (day as usize - 1) * 24 + hour as usize
-}
-
-// Past the end no place is filled, every amount is 0, and nothing is written.
-fn filled_at(filled: &[bool], at: usize) -> bool
-    ensures { λ r. ⌜ r ≡ getD (now (filled .entry)) at false ⌝ }
-{
-    if filled.len() <= at {
+    if marks.len() <= at {
         return false;
     }
-    filled[at]
+    marks[at]
 }
 
-fn amount_at(amounts: &[i64], at: usize) -> Dollars
-    ensures { λ r. ⌜ r ≡ dollars (getD (now (amounts .entry)) at (pos 0)) ⌝ }
+fn mark(marks: &mut [bool], at: usize, fill: bool)
+    ensures { λ r. ⌜ now (marks .exit) ≡ set (now (marks .entry)) at fill ⌝ }
 {
-    if amounts.len() <= at {
-        return Dollars(0);
-    }
-    let a = amounts[at];
-    Dollars(a)
-}
-
-fn mark(filled: &mut [bool], at: usize, fill: bool)
-    ensures { λ r. ⌜ now (filled .exit) ≡ set (now (filled .entry)) at fill ⌝ }
-{
-    if at < filled.len() {
-        filled[at] = fill;
+    if at < marks.len() {
+        marks[at] = fill;
     }
 }
 
@@ -114,193 +54,191 @@ fn write(amounts: &mut [i64], at: usize, amount: Dollars)
     }
 }
 
+// Puts a mark and an amount at a place.
+fn put(marks: &mut [bool], amounts: &mut [i64], at: usize, fill: bool, amount: Dollars)
+    ensures marks { λ r. ⌜ now (marks .exit) ≡ set (now (marks .entry)) at fill ⌝ }
+    ensures amounts { λ r. ⌜ now (amounts .exit) ≡ set (now (amounts .entry)) at (amount .0) ⌝ }
+{
+    mark(marks, at, fill);
+    write(amounts, at, amount);
+}
+
+fn clear_marks(marks: &mut [bool])
+    ensures { λ _. ⌜ now (marks .exit) ≡ replicate (length (now (marks .entry))) false ⌝ }
+{
+    let mut i = 0;
+    while i < marks.len() {
+        marks[i] = false;
+        i += 1;
+    }
+}
+
+fn clear_amounts(amounts: &mut [i64])
+    ensures { λ _. ⌜ now (amounts .exit) ≡ replicate (length (now (amounts .entry))) (pos 0) ⌝ }
+{
+    let mut i = 0;
+    while i < amounts.len() {
+        amounts[i] = 0;
+        i += 1;
+    }
+}
+
 // Whether the two runs are the ledger's, by their lengths.
-fn runs_fit(filled: usize, amounts: usize) -> bool
-    ensures { λ r. ⌜ r ≡ (eqb filled 744 && eqb amounts 744) ⌝ }
+fn runs_fit(marks: usize, amounts: usize) -> bool
+    ensures { λ r. ⌜ r ≡ (eqb marks monthPlaces && eqb amounts monthPlaces) ⌝ }
 {
-    (filled == PLACES) & (amounts == PLACES)
+    (marks == limits::PLACES) & (amounts == limits::PLACES)
 }
 
-// What a head shows of refusal 22: its days and its fee.
-fn head_fits(head: Head) -> bool
-    ensures { λ r. ⌜ r ≡ feesFit (monthRules (head .days)) (boardIn head [] []) ⌝ }
+// ---- the calls
+
+fn amount_refusal(amount: Dollars) -> u8
+    ensures { λ r. ⌜ r ≡ amountRefusal (amount .0) ⌝ }
 {
-    let fee = head.fee;
-    is_days(head.days) & (fee_refusal(fee) == 0)
+    let a = amount.0;
+    whole::unless(
+        whole::within(a, -limits::AMOUNT, limits::AMOUNT),
+        refusals::BAD_MONEY,
+        0,
+    )
 }
 
-// 1, 22, 9, 6: what is asked before the place is looked at.
-fn front(head: Head, filled: &[bool], amounts: &[i64], day: u8, hour: u8) -> u8
-    ensures { λ r. ⌜ r ≡ frontOf head (now (filled .entry)) (now (amounts .entry)) day hour 0 ⌝ }
+// 3, then 7 where the place has to be empty and is not, or 8 where it has to stand and does not.
+fn deed_refusal(amount: Dollars, mark: bool, stands: bool) -> u8
+    ensures { λ r. ⌜ r ≡ deedRuling (monthRules 0) mark (deedOf stands (amount .0)) ⌝ }
 {
-    if !runs_fit(filled.len(), amounts.len()) {
+    let k = amount_refusal(amount);
+    if stands {
+        return whole::or_else(k, whole::unless(mark, refusals::PLACE_EMPTY, 0));
+    }
+    whole::or_else(k, whole::unless(!mark, refusals::PLACE_FILLED, 0))
+}
+
+// What a post (`stands` false) or a replacement (true) is refused with: 1, 22, 9, 6, 3, then 7 or 8. A withdrawal is refused as a replacement by 0.
+fn number(
+    head: Head,
+    marks: &[bool],
+    amounts: &[i64],
+    place: Place,
+    amount: Dollars,
+    stands: bool,
+) -> u8
+    ensures { λ r. ⌜ r ≡ placeRuled head (now (marks .entry)) (now (amounts .entry)) place (deedOf stands (amount .0)) ⌝ }
+{
+    if !runs_fit(marks.len(), amounts.len()) {
         return refusals::WRONG_LENGTH;
     }
-    if !head_fits(head) {
+    if !head::fits(head) {
         return refusals::NOT_REACHABLE;
     }
     if head.closed {
         return refusals::MONTH_CLOSED;
     }
-    if !in_month(head.days, day, hour) {
+    if !place.inside {
         return refusals::NOT_IN_MONTH;
     }
-    0
+    deed_refusal(amount, mark_at(marks, place.at), stands)
 }
 
-// 3, then what the place says: whether it is as the call needs it.
-fn rest(amount: Dollars, fits: bool, number: u8) -> u8
-    ensures { λ r. ⌜ r ≡ orElse (amountRefusal (amount .0)) (unless fits number 0) ⌝ }
-{
-    let place = whole::unless(fits, number, 0);
-    whole::or_else(amount_refusal(amount), place)
-}
-
-// Puts a mark and an amount at a place.
-fn put(filled: &mut [bool], amounts: &mut [i64], at: usize, fill: bool, amount: Dollars)
-    ensures marks { λ r. ⌜ now (filled .exit) ≡ set (now (filled .entry)) at fill ⌝ }
-    ensures items { λ r. ⌜ now (amounts .exit) ≡ set (now (amounts .entry)) at (amount .0) ⌝ }
-{
-    mark(filled, at, fill);
-    write(amounts, at, amount);
-}
-
-// Post in place.
+// Puts an amount at a place that is empty.
 pub fn post_in(
     head: Head,
-    filled: &mut [bool],
+    marks: &mut [bool],
     amounts: &mut [i64],
-    day: u8,
-    hour: u8,
+    place: Place,
     amount: Dollars,
 ) -> u8
-    ensures answers { λ r. ⌜ r ≡ ruledIn (monthRules (head .days)) (boardIn head (now (filled .entry)) (now (amounts .entry))) (Call.post day hour (amountItem (amount .0))) ⌝ }
-    ensures leaves { λ r. ⌜ boardIn head (now (filled .exit)) (now (amounts .exit)) ≡ handedIn (monthRules (head .days)) (boardIn head (now (filled .entry)) (now (amounts .entry))) (Call.post day hour (amountItem (amount .0))) ⌝ }
+    ensures answers { λ r. ⌜ r ≡ placeRuled head (now (marks .entry)) (now (amounts .entry)) place (Deed.posts (amountItem (amount .0))) ⌝ }
+    ensures leaves { λ r. ⌜ boardIn head (now (marks .exit)) (now (amounts .exit)) ≡ placeHanded head (now (marks .entry)) (now (amounts .entry)) place (Deed.posts (amountItem (amount .0))) ⌝ }
 {
-    let k = front(head, filled, amounts, day, hour);
-    if k != 0 {
-        return k;
+    let k = number(head, marks, amounts, place, amount, false);
+    if k == 0 {
+        put(marks, amounts, place.at, true, amount);
     }
-    let at = place_of(day, hour);
-    let taken = filled_at(filled, at);
-    let n = rest(amount, !taken, refusals::PLACE_FILLED);
-    if n != 0 {
-        return n;
-    }
-    put(filled, amounts, at, true, amount);
-    0
+    k
 }
 
-// Replace in place.
+// Puts another amount at a place that stands.
 pub fn replace_in(
     head: Head,
-    filled: &mut [bool],
+    marks: &mut [bool],
     amounts: &mut [i64],
-    day: u8,
-    hour: u8,
+    place: Place,
     amount: Dollars,
 ) -> u8
-    ensures answers { λ r. ⌜ r ≡ ruledIn (monthRules (head .days)) (boardIn head (now (filled .entry)) (now (amounts .entry))) (Call.replace day hour (amountItem (amount .0))) ⌝ }
-    ensures leaves { λ r. ⌜ boardIn head (now (filled .exit)) (now (amounts .exit)) ≡ handedIn (monthRules (head .days)) (boardIn head (now (filled .entry)) (now (amounts .entry))) (Call.replace day hour (amountItem (amount .0))) ⌝ }
+    ensures answers { λ r. ⌜ r ≡ placeRuled head (now (marks .entry)) (now (amounts .entry)) place (Deed.replaces (amountItem (amount .0))) ⌝ }
+    ensures leaves { λ r. ⌜ boardIn head (now (marks .exit)) (now (amounts .exit)) ≡ placeHanded head (now (marks .entry)) (now (amounts .entry)) place (Deed.replaces (amountItem (amount .0))) ⌝ }
 {
-    let k = front(head, filled, amounts, day, hour);
-    if k != 0 {
-        return k;
-    }
-    let here = place_of(day, hour);
-    let stands = filled_at(filled, here);
-    let n = rest(amount, stands, refusals::PLACE_EMPTY);
-    if n != 0 {
-        return n;
-    }
-    put(filled, amounts, here, true, amount);
-    0
-}
-
-// Withdraw in place.
-pub fn withdraw_in(head: Head, filled: &mut [bool], amounts: &mut [i64], day: u8, hour: u8) -> u8
-    ensures answers { λ r. ⌜ r ≡ ruledIn (monthRules (head .days)) (boardIn head (now (filled .entry)) (now (amounts .entry))) (Call.withdraw day hour) ⌝ }
-    ensures leaves { λ r. ⌜ boardIn head (now (filled .exit)) (now (amounts .exit)) ≡ handedIn (monthRules (head .days)) (boardIn head (now (filled .entry)) (now (amounts .entry))) (Call.withdraw day hour) ⌝ }
-{
-    let k = front(head, filled, amounts, day, hour);
-    if k != 0 {
-        return k;
-    }
-    let at = place_of(day, hour);
-    if !filled_at(filled, at) {
-        return refusals::PLACE_EMPTY;
-    }
-    put(filled, amounts, at, false, Dollars(0));
-    0
-}
-
-// Sets the loss fee, in place: no place is touched.
-pub fn loss_fee_in(head: Head, amount: Dollars) -> Headed
-    ensures { λ r. ⌜ r ≡ headedOf head (Call.lossFee tt (amount .0)) ⌝ }
-{
-    let open = whole::unless(!head.closed, refusals::MONTH_CLOSED, fee_refusal(amount));
-    let k = whole::unless(head_fits(head), refusals::NOT_REACHABLE, open);
+    let k = number(head, marks, amounts, place, amount, true);
     if k == 0 {
-        let next = Head {
-            days: head.days,
-            closed: head.closed,
-            fee: amount,
-        };
-        return Headed {
-            refusal: k,
-            head: next,
-        };
+        put(marks, amounts, place.at, true, amount);
     }
+    k
+}
+
+// Empties a place that stands.
+pub fn withdraw_in(head: Head, marks: &mut [bool], amounts: &mut [i64], place: Place) -> u8
+    ensures answers { λ r. ⌜ r ≡ placeRuled head (now (marks .entry)) (now (amounts .entry)) place Deed.withdraws ⌝ }
+    ensures leaves { λ r. ⌜ boardIn head (now (marks .exit)) (now (amounts .exit)) ≡ placeHanded head (now (marks .entry)) (now (amounts .entry)) place Deed.withdraws ⌝ }
+{
+    let k = number(head, marks, amounts, place, Dollars(0), true);
+    if k == 0 {
+        put(marks, amounts, place.at, false, Dollars(0));
+    }
+    k
+}
+
+// The head of a month that opens on runs of those lengths.
+fn opened(days: u8, marks: usize, amounts: usize) -> Headed
+    ensures { λ r. ⌜ r ≡ openedOn days marks amounts ⌝ }
+{
+    if runs_fit(marks, amounts) {
+        return head::open(days);
+    }
+    let none = head::open(0);
+    let head = none.head;
     Headed {
-        refusal: k,
+        refusal: refusals::WRONG_LENGTH,
         head: head,
     }
 }
 
-// Closes the month, in place.
-pub fn close_in(head: Head) -> Headed
-    ensures { λ r. ⌜ r ≡ headedOf head Call.close ⌝ }
+// Opens a month: both runs are cleared.
+pub fn open_in(days: u8, marks: &mut [bool], amounts: &mut [i64]) -> Headed
+    ensures answers { λ r. ⌜ r ≡ openedIn days (now (marks .entry)) (now (amounts .entry)) ⌝ }
+    ensures marks { λ r. ⌜ now (marks .exit) ≡ openLeft (monthRules days) (boardIn (freshHead days) (now (marks .entry)) (now (amounts .entry))) .marks ⌝ }
+    ensures amounts { λ r. ⌜ now (amounts .exit) ≡ openLeft (monthRules days) (boardIn (freshHead days) (now (marks .entry)) (now (amounts .entry))) .amounts ⌝ }
 {
-    let open = whole::unless(!head.closed, refusals::MONTH_CLOSED, 0);
-    let k = whole::unless(head_fits(head), refusals::NOT_REACHABLE, open);
-    if k == 0 {
-        let fee = head.fee;
-        let next = Head {
-            days: head.days,
-            closed: true,
-            fee: fee,
-        };
-        return Headed {
-            refusal: k,
-            head: next,
-        };
+    let headed = opened(days, marks.len(), amounts.len());
+    if headed.refusal == 0 {
+        clear_marks(marks);
+        clear_amounts(amounts);
     }
-    Headed {
-        refusal: k,
-        head: head,
-    }
+    headed
 }
+
+// ---- the test of a ledger, and the read-outs
 
 // Whether a place of the month that is filled has an amount in the range, and any other place is empty with 0.
-fn place_fits(days: u8, p: usize, filled: bool, amount: Dollars) -> bool
-    ensures { λ r. ⌜ r ≡ placeFits days p filled (amount .0) ⌝ }
+fn place_fits(days: u8, p: usize, mark: bool, amount: Dollars) -> bool
+    ensures { λ r. ⌜ r ≡ placeFits days p mark (amount .0) ⌝ }
 {
     let a = amount.0;
-    if filled {
-        (p < days as usize * 24) & whole::within(a, LEAST, MOST)
+    if mark {
+        (p < days as usize * limits::HOURS) & whole::within(a, -limits::AMOUNT, limits::AMOUNT)
     } else {
         a == 0
     }
 }
 
-fn places_fit(days: u8, filled: &[bool], amounts: &[i64]) -> bool
-    requires { ⌜ (length (now filled) ≡ 744) × (length (now amounts) ≡ 744) ⌝ }
-    ensures { λ r. ⌜ r ≡ placesFit days (now (filled .entry)) (now (amounts .entry)) ⌝ }
+fn places_fit(days: u8, marks: &[bool], amounts: &[i64]) -> bool
+    requires { ⌜ (length (now marks) ≡ monthPlaces) × (length (now amounts) ≡ monthPlaces) ⌝ }
+    ensures { λ r. ⌜ r ≡ placesFit days (now (marks .entry)) (now (amounts .entry)) ⌝ }
 {
     let mut p = 0;
-    while p < PLACES {
+    while p < limits::PLACES {
         let a = amounts[p];
-        if !place_fits(days, p, filled[p], Dollars(a)) {
+        if !place_fits(days, p, marks[p], Dollars(a)) {
             return false;
         }
         p += 1;
@@ -309,19 +247,14 @@ fn places_fit(days: u8, filled: &[bool], amounts: &[i64]) -> bool
 }
 
 // Whether some run of calls from a fresh month hands this ledger back: 1, 22, or 0 where one does.
-pub fn check_in<'a>(head: Head, filled: &'a [bool], amounts: &'a [i64]) -> u8
-    ensures { λ r. ⌜ r ≡ ledgerRefusal (monthRules (head .days)) (boardIn head (now (filled .entry)) (now (amounts .entry))) ⌝ }
+pub fn check_in<'a>(head: Head, marks: &'a [bool], amounts: &'a [i64]) -> u8
+    ensures { λ r. ⌜ r ≡ ledgerRefusal (monthRules (head .days)) (boardIn head (now (marks .entry)) (now (amounts .entry))) ⌝ }
 {
-    if !runs_fit(filled.len(), amounts.len()) {
+    if !runs_fit(marks.len(), amounts.len()) {
         return refusals::WRONG_LENGTH;
     }
-    if !head_fits(head) {
-        return refusals::NOT_REACHABLE;
-    }
-    if !places_fit(head.days, filled, amounts) {
-        return refusals::NOT_REACHABLE;
-    }
-    0
+    let fits = head::fits(head) & places_fit(head.days, marks, amounts);
+    whole::unless(fits, refusals::NOT_REACHABLE, 0)
 }
 
 // A read-out's answer: a refusal has the amount 0.
@@ -340,19 +273,34 @@ fn answer(k: u8, amount: Dollars) -> Told
     }
 }
 
-// One hour's amount, in place.
-pub fn hour_in<'a>(head: Head, filled: &'a [bool], amounts: &'a [i64], day: u8, hour: u8) -> Told
-    ensures { λ r. ⌜ r ≡ toldOf (hourIn (monthRules (head .days)) (boardIn head (now (filled .entry)) (now (amounts .entry))) day hour) ⌝ }
+// One hour's amount.
+pub fn hour_in<'a>(head: Head, marks: &'a [bool], amounts: &'a [i64], place: Place) -> Told
+    ensures { λ r. ⌜ r ≡ toldOf (hourIn (monthRules (head .days)) (boardIn head (now (marks .entry)) (now (amounts .entry))) (place .inside) (place .at)) ⌝ }
 {
-    let here = place_of(day, hour);
-    let place = whole::unless(filled_at(filled, here), refusals::PLACE_EMPTY, 0);
-    let inside = whole::unless(
-        in_month(head.days, day, hour),
-        refusals::NOT_IN_MONTH,
-        place,
-    );
-    let seen = whole::unless(head_fits(head), refusals::NOT_REACHABLE, inside);
-    let runs = runs_fit(filled.len(), amounts.len());
+    let stands = whole::unless(mark_at(marks, place.at), refusals::PLACE_EMPTY, 0);
+    let here = whole::unless(place.inside, refusals::NOT_IN_MONTH, stands);
+    let seen = whole::unless(head::fits(head), refusals::NOT_REACHABLE, here);
+    let runs = runs_fit(marks.len(), amounts.len());
     let k = whole::unless(runs, refusals::WRONG_LENGTH, seen);
-    answer(k, amount_at(amounts, here))
+    answer(k, Dollars(whole::at(amounts, place.at)))
+}
+
+// The month total: the amounts less the loss fee.
+pub fn total_in<'a>(head: Head, marks: &'a [bool], amounts: &'a [i64]) -> Told
+    ensures { λ r. ⌜ r ≡ toldOf (totalIn (monthRules (head .days)) (boardIn head (now (marks .entry)) (now (amounts .entry)))) ⌝ }
+{
+    let k = check_in(head, marks, amounts);
+    if k != 0 {
+        return Told {
+            refusal: k,
+            amount: Dollars(0),
+        };
+    }
+    let fee = head.fee;
+    let f = fee.0;
+    let s = whole::sum(amounts);
+    Told {
+        refusal: 0,
+        amount: Dollars(s.sum - f),
+    }
 }

@@ -1,11 +1,10 @@
 -- A frequency from 55,000 to 65,000 mHz is not turned away, and has the two lines' bounds. Stated over the contract as the toolchain reads it. Assumes nothing.
 use mathlib.Core.Path.{_≡_, _∙_}
 use mathlib.Core.Bool.{true}
-use lib.IntN.{pos}
 use contract.Lifetimes.{Lfts}
 use denote.Triple.Clauses.{AtExit}
 use borrow.Fn.Kinds.{Dens, endedOf}
-use Rattle.whole.specs.Whole.{inRange}
+use Rattle.units.specs.Limits.{isFrequency}
 use Rattle.curve.specs.Curve.{upperAt, lowerAt}
 use Rattle.curve.specs.declared.Bounds.{Bounds}
 use Rattle.curve.proofs.Limits.{curve-is}
@@ -13,5 +12,5 @@ use Rattle.curve.proofs.curve.Reads as curve
 use Rattle.curve.proofs.curve.Kinds as curve-kinds
 
 pub curve-accepted : (κs : Lfts 0) (a : Dens κs curve-kinds.ps) (x : Bounds) (s : AtExit (endedOf 0 curve-kinds.ps curve-kinds.r) κs) → curve.Post κs a x s
-    → inRange (pos 55000) (pos 65000) (a .0 .0) ≡ true → x ≡ record { refusal = 0; upper = upperAt (a .0 .0); lower = lowerAt (a .0 .0) }
+    → isFrequency (a .0 .0) ≡ true → x ≡ record { refusal = 0; upper = upperAt (a .0 .0); lower = lowerAt (a .0 .0) }
 curve-accepted κs a x s p e = p ∙ curve-is (a .0) e

@@ -1,5 +1,5 @@
 -- The rule of the table, once for all entries: a table whose 1,002 entries all agree with the lines' pairs, as antt counts them (`pairs`), is the list of these pairs, and then
--- the entry at twice k is the upper bound of 59,750 + k and the next one the lower bound. By induction on the lists. Assumes nothing.
+-- the entry at twice k is the upper bound of the table's first frequency and k and the next one the lower bound. By induction on the lists. Assumes nothing.
 use Prim.Native.Nat.{ℕ, zero, suc, _+_, _*_, _<_}
 use mathlib.Core.Path.{_≡_, refl, sym, ap₂, _∙_}
 use mathlib.Core.Bool.{true, false}
@@ -12,7 +12,7 @@ use Rattle.whole.specs.Choice.{pick}
 use Rattle.whole.specs.Whole.{inRange}
 use Rattle.whole.proofs.Choice.{by-test}
 use Rattle.whole.proofs.Signed.{signed, inside}
-use Rattle.curve.specs.Curve.{upperAt, lowerAt, pairsFrom, pairsOf}
+use Rattle.curve.specs.Curve.{upperAt, lowerAt, firstFrequency, lastPlace, pairsFrom, pairsOf}
 
 -- how many entries agree before the first that does not
 abbrev pub agreed : List ℤ → List ℤ → ℕ
@@ -38,7 +38,7 @@ length-from f (suc n) = omega (arith, length-from (suc f) n)
 
 pub length-pairs : length pairsOf ≡ 1002
 unfolding pairsOf
-length-pairs = length-from 59750 501
+length-pairs = length-from firstFrequency (lastPlace + 1)
 
 -- a table of as many entries as the pairs have, all of which agree with them, is theirs
 pub agrees : (table : List ℤ) → length table ≡ 1002 → agreed table pairsOf ≡ 1002 → table ≡ pairsOf
@@ -58,6 +58,6 @@ entry-from f (suc n) (suc k) h =
     let next : f + suc k ≡ suc f + k = omega arith in
     record { upper = rw (two, next) (p .upper); lower = rw (three, next) (p .lower) }
 
-pub entry : (k : ℕ) → k < 501 → Pair pairsOf k (59750 + k)
+pub entry : (k : ℕ) → k < lastPlace + 1 → Pair pairsOf k (firstFrequency + k)
 unfolding pairsOf
-entry k h = entry-from 59750 501 k h
+entry k h = entry-from firstFrequency (lastPlace + 1) k h

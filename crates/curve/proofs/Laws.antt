@@ -1,72 +1,72 @@
--- The curve is level outside its corners: a frequency has the bounds of the nearest one of 59,750 to 60,250. Once for both bounds, by
--- the order of the frequency and the corners. Assumes nothing.
-use Prim.Native.Nat.{ℕ, _+_, _-_, _≤_, _<_, min}
+-- The curve is level outside its corners: a distance has the bounds of the nearest one that the table has. Once for both bounds, by the order of the
+-- distance and the outer corners. Assumes nothing.
+use Prim.Native.Nat.{_+_, _-_, min}
 use mathlib.Core.Path.{_≡_, refl, sym, ap, _∙_}
-use mathlib.Core.Bool.{Bool, true, false}
+use mathlib.Core.Bool.{true, false}
 use native.Mathlib.Omega.{arith}
-use lib.Dec.{leb}
-use lib.IntN.{ℤ, pos, negsuc}
-use borrow.Author.Tests.{le-leb, lt-leb, leb-true, leb-false}
+use lib.IntN.{ℤ, pos, negsuc, _+ℤ_, _-ℤ_}
+use lib.Signed.{leZ}
 use Rattle.whole.specs.Whole.{minus, up, down, nearest, withSign, halfUp}
 use Rattle.whole.proofs.Choice.{by-test}
-use Rattle.curve.specs.Curve.{Corner, corner, bound, upperAt, lowerAt, placeAt}
+use Rattle.whole.proofs.Signed.{signed, sum, difference}
+use Rattle.curve.specs.Curve.{reference, reach, Corner, corner, atDistance, upperAt, lowerAt, firstFrequency, lastPlace, placeBy, placeAt}
 
--- the frequency of the place that a frequency is read at
-abbrev pub clip : ℕ → ℕ
-clip f = 59750 + min (f - 59750) 500
+-- the distance of the place that a distance is read at
+abbrev pub clip : ℤ → ℤ
+clip d = pos (firstFrequency + placeBy d) -ℤ pos reference
 
 -- the last line ends in the last corner
 abbrev pub Ends : (Corner → ℤ) → Type 0
-Ends percent = bound percent (pos 60250) ≡ percent (corner 60250 (minus 100) (minus 100))
+Ends percent = atDistance percent (pos reach) ≡ percent (corner (pos reach) (minus 100) (minus 100))
 
-module _ (percent : Corner → ℤ) (ends : Ends percent) where
-  before : (f : ℕ) → f ≤ 59750 → bound percent (pos f) ≡ bound percent (pos 59750)
-  before f h = simp (le-leb f 59750 h)
-
-  after : (f : ℕ) → 60250 < f → bound percent (pos f) ≡ bound percent (pos 60250)
-  after f h =
-      simp (
-        ends,
-        lt-leb f 59750 (omega arith),
-        lt-leb f 59860 (omega arith),
-        lt-leb f 59980 (omega arith),
-        lt-leb f 60020 (omega arith),
-        lt-leb f 60140 (omega arith),
-        lt-leb f 60250 h,
-      )
-
-  pub clipped : (f : ℕ) → bound percent (pos (clip f)) ≡ bound percent (pos f)
-  clipped f =
-      by-test (leb f 59750)
-      (λ (t : leb f 59750 ≡ true).
-      let h = leb-true f 59750 t in
-      let e : clip f ≡ 59750 = omega arith in
-      rw e (sym (before f h)))
-      (λ (t : leb f 59750 ≡ false).
-      let h = leb-false f 59750 t in
-      by-test (leb f 60250)
-      (λ (u : leb f 60250 ≡ true).
-      let g = leb-true f 60250 u in
-      let e : clip f ≡ f = omega arith in
-      rw e)
-      (λ (u : leb f 60250 ≡ false).
-      let g = leb-false f 60250 u in
-      let e : clip f ≡ 60250 = omega arith in
-      rw e (sym (after f g))))
-
--- the frequency of the place that a frequency is read at has its bounds
-pub upper-placed : (f : ℤ) → upperAt (pos (59750 + placeAt f)) ≡ upperAt f
-unfolding upperAt placeAt nearest withSign halfUp
-upper-placed (pos f) = clipped (λ (c : Corner). c .upper) refl f
-upper-placed (negsuc f) = refl
-
-pub lower-placed : (f : ℤ) → lowerAt (pos (59750 + placeAt f)) ≡ lowerAt f
-unfolding lowerAt placeAt nearest withSign halfUp
-lower-placed (pos f) = clipped (λ (c : Corner). c .lower) refl f
-lower-placed (negsuc f) = refl
+above-zero : (z : ℤ) → up z ≡ up z - down z
+above-zero (pos n) = omega arith
+above-zero (negsuc n) = omega arith
 
 -- the place, as `omega` reads it
-pub placed : (f : ℤ) → placeAt f ≡ min ((up f - down f) - 59750) 500
+by-distance : (d : ℤ) → placeBy d ≡ min ((up d + reach) - down d) lastPlace
+by-distance d = omega (arith, sum d (pos reach), above-zero (d +ℤ pos reach))
+
+pub placed : (f : ℤ) → placeAt f ≡ min ((up f - down f) - firstFrequency) lastPlace
 unfolding placeAt
-placed (pos f) = omega arith
-placed (negsuc f) = omega arith
+placed f = omega (arith, by-distance (f -ℤ pos reference), difference f (pos reference), above-zero f)
+
+clip-is : (d : ℤ) → up (clip d) + reference ≡ (firstFrequency + placeBy d) + down (clip d)
+clip-is d = omega (arith, difference (pos (firstFrequency + placeBy d)) (pos reference))
+
+module _ (percent : Corner → ℤ) (ends : Ends percent) where
+  before : (d : ℤ) → leZ d (minus reach) ≡ true → atDistance percent d ≡ atDistance percent (minus reach)
+  before d h = simp h
+
+  after : (d : ℤ) → leZ d (pos reach) ≡ false → atDistance percent d ≡ atDistance percent (pos reach)
+  after d h =
+      let a : leZ d (minus reach) ≡ false = omega signed in
+      let b : leZ d (minus 140) ≡ false = omega signed in
+      let c : leZ d (minus 20) ≡ false = omega signed in
+      let e : leZ d (pos 20) ≡ false = omega signed in
+      let f : leZ d (pos 140) ≡ false = omega signed in
+      simp (ends, a, b, c, e, f, h)
+
+  pub clipped : (d : ℤ) → atDistance percent (clip d) ≡ atDistance percent d
+  clipped d =
+      by-test (leZ d (minus reach))
+      (λ (t : leZ d (minus reach) ≡ true).
+      let e : clip d ≡ minus reach = omega (signed, clip-is d, by-distance d) in
+      ap (atDistance percent) e ∙ sym (before d t))
+      (λ (t : leZ d (minus reach) ≡ false).
+      by-test (leZ d (pos reach))
+      (λ (u : leZ d (pos reach) ≡ true).
+      let e : clip d ≡ d = omega (signed, clip-is d, by-distance d) in
+      ap (atDistance percent) e)
+      (λ (u : leZ d (pos reach) ≡ false).
+      let e : clip d ≡ pos reach = omega (signed, clip-is d, by-distance d) in
+      ap (atDistance percent) e ∙ sym (after d u)))
+
+-- the frequency of the place that a frequency is read at has its bounds
+pub upper-placed : (f : ℤ) → upperAt (pos (firstFrequency + placeAt f)) ≡ upperAt f
+unfolding upperAt placeAt nearest withSign halfUp
+upper-placed f = clipped (λ (c : Corner). c .upper) refl (f -ℤ pos reference)
+
+pub lower-placed : (f : ℤ) → lowerAt (pos (firstFrequency + placeAt f)) ≡ lowerAt f
+unfolding lowerAt placeAt nearest withSign halfUp
+lower-placed f = clipped (λ (c : Corner). c .lower) refl (f -ℤ pos reference)

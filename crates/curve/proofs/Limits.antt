@@ -1,60 +1,57 @@
--- What crates above cite: a bound lies from -100 to 100 percent, whatever frequency is handed in. Once for both bounds: at the 501 frequencies of the table by computing
+-- What crates above cite: a bound lies from -100 to 100 percent, whatever frequency is handed in. Once for both bounds: at the 501 distances of the table by computing
 -- them, and outside by the level ends. Assumes nothing.
-use Prim.Native.Nat.{ℕ, _+_, _*_, _-_, _<_, min}
-use mathlib.Core.Path.{_≡_, refl, ap, _∙_}
-use mathlib.Core.Bool.{true}
+use Prim.Native.Nat.{ℕ, _+_, _*_, _<_}
+use mathlib.Core.Path.{_≡_, refl, sym, ap, _∙_}
+use mathlib.Core.Bool.{Bool, true}
 use mathlib.Core.List.{List}
 use native.Mathlib.Omega.{arith}
-use lib.IntN.{ℤ, pos, negsuc}
+use lib.IntN.{ℤ, pos, _-ℤ_}
 use lib.ListN.{length, getD}
 use lib.Signed.{leZ}
 use Rattle.whole.specs.Folds.{foldTo, allTo}
 use Rattle.whole.specs.Whole.{minus, Within, inRange, nearest, withSign, halfUp}
 use Rattle.whole.proofs.Folds.{all-at}
 use Rattle.whole.proofs.Sums.{in-within}
+use Rattle.units.specs.Limits.{isFrequency}
 use Rattle.units.specs.declared.Millihertz.{Millihertz}
-use Rattle.curve.specs.Curve.{Corner, bound, upperAt, lowerAt, boundsAt, curveAt, pairsOf, placeAt}
+use Rattle.curve.specs.Curve.{reference, Corner, atDistance, upperAt, lowerAt, boundsAt, curveAt, firstFrequency, lastPlace, pairsOf, placeBy, placeAt}
 use Rattle.curve.proofs.Entries.{entry, length-pairs}
-use Rattle.curve.proofs.Laws.{Ends, clip, clipped, upper-placed, lower-placed}
+use Rattle.curve.proofs.Laws.{Ends, clipped, upper-placed, lower-placed}
 
-pub place-within : (f : ℤ) → placeAt f < 501
+pub place-within : (f : ℤ) → placeAt f < lastPlace + 1
 unfolding placeAt
-place-within (pos f) = omega arith
-place-within (negsuc f) = omega arith
+place-within f = omega arith
 
--- the bound at each of the table's frequencies is a percent
+-- the bound at each of the table's distances is a percent
+abbrev isPercent : (Corner → ℤ) → ℕ → Bool
+isPercent percent k = inRange (minus 100) (pos 100) (atDistance percent (pos (firstFrequency + k) -ℤ pos reference))
+
 abbrev Percents : (Corner → ℤ) → Type 0
-Percents percent = allTo 501 (λ k. inRange (minus 100) (pos 100) (bound percent (pos (59750 + k)))) ≡ true
+Percents percent = allTo (lastPlace + 1) (isPercent percent) ≡ true
 
 module _ (percent : Corner → ℤ) (ends : Ends percent) (percents : Percents percent) where
-  natural-within : (f : ℕ) → Within 100 (bound percent (pos f))
-  natural-within f =
-      let e : inRange (minus 100) (pos 100) (bound percent (pos (clip f))) ≡ true =
-      all-at 501 (λ k. inRange (minus 100) (pos 100) (bound percent (pos (59750 + k)))) percents (min (f - 59750) 500) (omega arith) in
-      in-within {k = 100} (rw (clipped percent ends f) at e)
+  distance-within : (d : ℤ) → Within 100 (atDistance percent d)
+  distance-within d =
+      in-within {k = 100} (ap (inRange (minus 100) (pos 100)) (sym (clipped percent ends d)) ∙ all-at (lastPlace + 1) (isPercent percent) percents (placeBy d) (omega arith))
 
 pub upper-within : (f : ℤ) → Within 100 (upperAt f)
 unfolding upperAt nearest withSign halfUp inRange foldTo
-upper-within (pos f) = natural-within (λ (c : Corner). c .upper) refl refl f
-upper-within (negsuc f) = omega arith
+upper-within f = distance-within (λ (c : Corner). c .upper) refl refl (f -ℤ pos reference)
 
 pub lower-within : (f : ℤ) → Within 100 (lowerAt f)
 unfolding lowerAt nearest withSign halfUp inRange foldTo
-lower-within (pos f) = natural-within (λ (c : Corner). c .lower) refl refl f
-lower-within (negsuc f) = omega arith
+lower-within f = distance-within (λ (c : Corner). c .lower) refl refl (f -ℤ pos reference)
 
 -- the lower bound is never above the upper one
-ordered : (f : ℕ) → leZ (lowerAt (pos f)) (upperAt (pos f)) ≡ true
+abbrev isOrdered : ℕ → Bool
+isOrdered k = leZ (lowerAt (pos (firstFrequency + k))) (upperAt (pos (firstFrequency + k)))
+
+table-ordered : allTo (lastPlace + 1) isOrdered ≡ true
 unfolding upperAt lowerAt nearest withSign halfUp foldTo
-ordered f =
-    let table : allTo 501 (λ k. leZ (lowerAt (pos (59750 + k))) (upperAt (pos (59750 + k)))) ≡ true = refl in
-    let e = all-at 501 (λ k. leZ (lowerAt (pos (59750 + k))) (upperAt (pos (59750 + k)))) table (placeAt (pos f)) (place-within (pos f)) in
-    rw (upper-placed (pos f), lower-placed (pos f)) at e
+table-ordered = refl
 
 pub bounds-ordered : (f : ℤ) → leZ (lowerAt f) (upperAt f) ≡ true
-unfolding upperAt lowerAt
-bounds-ordered (pos f) = ordered f
-bounds-ordered (negsuc f) = refl
+bounds-ordered f = rw (upper-placed f, lower-placed f) at (all-at (lastPlace + 1) isOrdered table-ordered (placeAt f) (place-within f))
 
 -- what the table has at the place of a frequency
 module _ (f : ℤ) {l : List ℤ} {k : ℕ} (table : l ≡ pairsOf) (at : k ≡ placeAt f) where
@@ -68,6 +65,6 @@ module _ (f : ℤ) {l : List ℤ} {k : ℕ} (table : l ≡ pairsOf) (at : k ≡ 
   lower-in = rw (table, at) (entry (placeAt f) (place-within f) .lower ∙ lower-placed f)
 
 -- a frequency in its range has the lines' bounds
-pub curve-is : (f : Millihertz) → inRange (pos 55000) (pos 65000) (f .0) ≡ true → curveAt f ≡ boundsAt (f .0)
+pub curve-is : (f : Millihertz) → isFrequency (f .0) ≡ true → curveAt f ≡ boundsAt (f .0)
 unfolding curveAt
 curve-is f e = rw e

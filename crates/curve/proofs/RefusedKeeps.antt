@@ -4,8 +4,8 @@ use mathlib.Core.Path.{_≡_, sym, ap, _∙_}
 use mathlib.Core.Bool.{true, false}
 use lib.IntN.{pos}
 use Rattle.whole.specs.Refused.{RefusedBare}
-use Rattle.whole.specs.Whole.{inRange}
 use Rattle.whole.proofs.Choice.{by-test}
+use Rattle.units.specs.Limits.{isFrequency}
 use Rattle.curve.specs.Curve.{curveAt}
 use Rattle.curve.specs.declared.Bounds.{Bounds}
 use Rattle.curve.proofs.curve.Reads as curve
@@ -17,7 +17,7 @@ bare k = record { refusal = k; upper = pos 0; lower = pos 0 }
 curve-refused-keeps : RefusedBare 0 curve-kinds.ps curve-kinds.r (λ κs x. x .refusal) (λ κs a k. bare k) curve.Post
 unfolding curveAt
 curve-refused-keeps κs a x s p f =
-    let test = inRange (pos 55000) (pos 65000) (a .0 .0) in
+    let test = isFrequency (a .0 .0) in
     by-test test
     (λ (t : test ≡ true). absurd (f (ap (λ (b : Bounds). b .refusal) (rw t at p))))
     (λ (t : test ≡ false). let e = rw t at p in e ∙ ap bare (sym (ap (λ (b : Bounds). b .refusal) e)))

@@ -1,60 +1,73 @@
--- Document 01, "The power curve" (document 001, table 1): upper and lower power in percent of capacity, straight between the corners.
-use Prim.Native.Nat.{ℕ, zero, suc, _-_, min}
+-- Document 01, "The power curve" (document 001, table 1): upper and lower power in percent of capacity, straight between the corners. The table stands by distances
+-- from a reference frequency, which is 60 Hz.
+use Prim.Native.Nat.{ℕ, zero, suc, _+_, _*_, _-_, min}
 use mathlib.Core.List.{List, [], _∷_}
-use lib.IntN.{ℤ, pos, negsuc, natAbs, _+ℤ_, _-ℤ_, _*ℤ_}
+use lib.IntN.{ℤ, pos, natAbs, _+ℤ_, _-ℤ_, _*ℤ_}
 use lib.Signed.{leZ}
 use Rattle.whole.specs.Choice.{pick}
-use Rattle.whole.specs.Whole.{minus, inRange, nearest}
+use Rattle.whole.specs.Whole.{minus, up, nearest}
+use Rattle.units.specs.Limits.{isFrequency}
 use Rattle.units.specs.Refusals.{badReading}
 use Rattle.units.specs.declared.Millihertz.{Millihertz}
 use Rattle.curve.specs.declared.Bounds.{Bounds}
 
--- a corner: its frequency in millihertz, and the upper and the lower percent there
+-- the reference frequency, and how far from it the outer corners are, in millihertz
+abbrev pub reference : ℕ
+reference = 60000
+
+abbrev pub reach : ℕ
+reach = 250
+
+-- a corner: its distance from the reference in millihertz, and the upper and the lower percent there
 pub record Corner : Type 0 where
-  pub at : ℕ
+  pub at : ℤ
   pub upper : ℤ
   pub lower : ℤ
 
-abbrev pub corner : ℕ → ℤ → ℤ → Corner
-corner f u l = record { at = f; upper = u; lower = l }
+abbrev pub corner : ℤ → ℤ → ℤ → Corner
+corner d u l = record { at = d; upper = u; lower = l }
 
--- one of the two bounds: the nearest whole percent to the straight line from p to q, at the frequency f
+-- one of the two bounds: the nearest whole percent to the straight line from p to q, at the distance d
 abbrev pub line : (Corner → ℤ) → Corner → Corner → ℤ → ℤ
-line percent p q f =
-    let run = pos (q .at) -ℤ pos (p .at) in
-    nearest (percent p *ℤ run +ℤ (f -ℤ pos (p .at)) *ℤ (percent q -ℤ percent p)) (natAbs run)
+line percent p q d =
+    let run = q .at -ℤ p .at in
+    nearest (percent p *ℤ run +ℤ (d -ℤ p .at) *ℤ (percent q -ℤ percent p)) (natAbs run)
 
 -- level up to the first corner, straight from each corner to the next, level after the last
 abbrev pub along : (Corner → ℤ) → Corner → List Corner → ℤ → ℤ
-along percent p [] f = percent p
-along percent p (q ∷ qs) f =
-    pick (leZ f (pos (p .at))) (percent p) (pick (leZ f (pos (q .at))) (line percent p q f) (along percent q qs f))
+along percent p [] d = percent p
+along percent p (q ∷ qs) d =
+    pick (leZ d (p .at)) (percent p) (pick (leZ d (q .at)) (line percent p q d) (along percent q qs d))
 
--- the paper's table
-abbrev pub bound : (Corner → ℤ) → ℤ → ℤ
-bound percent =
+-- the paper's table: 59.75, 59.86, 59.98, 60.02, 60.14 and 60.25 Hz
+abbrev pub atDistance : (Corner → ℤ) → ℤ → ℤ
+atDistance percent =
     along percent
-    (corner 59750 (pos 100) (pos 100))
-    (corner 59860 (pos 52) (pos 52)
-    ∷ corner 59980 (pos 9) (minus 9)
-    ∷ corner 60020 (pos 9) (minus 9)
-    ∷ corner 60140 (minus 52) (minus 52)
-    ∷ corner 60250 (minus 100) (minus 100)
+    (corner (minus reach) (pos 100) (pos 100))
+    (corner (minus 140) (pos 52) (pos 52)
+    ∷ corner (minus 20) (pos 9) (minus 9)
+    ∷ corner (pos 20) (pos 9) (minus 9)
+    ∷ corner (pos 140) (minus 52) (minus 52)
+    ∷ corner (pos reach) (minus 100) (minus 100)
     ∷ [])
 
+-- one of the two bounds of the frequency f, with the corners around a reference
+abbrev pub bound : (Corner → ℤ) → ℤ → ℤ → ℤ
+bound percent around f = atDistance percent (f -ℤ around)
+
 unfoldable pub upperAt : ℤ → ℤ
-upperAt f = bound (λ (c : Corner). c .upper) f
+upperAt f = bound (λ (c : Corner). c .upper) (pos reference) f
 
 unfoldable pub lowerAt : ℤ → ℤ
-lowerAt f = bound (λ (c : Corner). c .lower) f
+lowerAt f = bound (λ (c : Corner). c .lower) (pos reference) f
 
 abbrev pub boundsAt : ℤ → Bounds
 boundsAt f = record { refusal = 0; upper = upperAt f; lower = lowerAt f }
 
--- the pair of a frequency from 55,000 to 65,000 mHz; others are refused with 4
+-- the pair of a frequency in its range; others are refused with 4
 unfoldable pub curveAt : Millihertz → Bounds
 curveAt frequency =
-    pick (inRange (pos 55000) (pos 65000) (frequency .0))
+    pick (isFrequency (frequency .0))
     (boundsAt (frequency .0))
     (record { refusal = badReading; upper = pos 0; lower = pos 0 })
 
@@ -63,11 +76,19 @@ abbrev pub pairsFrom : ℕ → ℕ → List ℤ
 pairsFrom f zero = []
 pairsFrom f (suc n) = upperAt (pos f) ∷ lowerAt (pos f) ∷ pairsFrom (suc f) n
 
--- the table that the desk prints: 501 pairs, one for each millihertz from 59,750 to 60,250
-unfoldable pub pairsOf : List ℤ
-pairsOf = pairsFrom 59750 501
+-- "a table of 501 pairs, one for each millihertz from 59,750 to 60,250": from the first corner to the last
+abbrev pub firstFrequency : ℕ
+firstFrequency = reference - reach
 
--- the place among its pairs that a frequency is read at: below the table the first, above it the last
+abbrev pub lastPlace : ℕ
+lastPlace = 2 * reach
+
+unfoldable pub pairsOf : List ℤ
+pairsOf = pairsFrom firstFrequency (lastPlace + 1)
+
+-- the place among its pairs that a distance is read at, and so a frequency: below the table the first, above it the last
+abbrev pub placeBy : ℤ → ℕ
+placeBy d = min (up (d +ℤ pos reach)) lastPlace
+
 unfoldable pub placeAt : ℤ → ℕ
-placeAt (pos f) = min (f - 59750) 500
-placeAt (negsuc f) = 0
+placeAt f = placeBy (f -ℤ pos reference)

@@ -2,8 +2,21 @@
 ghost use mathlib.Core.Path.{_≡_};
 ghost use Rattle.curve.specs.Curve.{curveAt, boundsAt, placeAt, pairsOf};
 use units::Millihertz;
+use units::limits;
 
 mod table;
+
+// The reference frequency, and how far from it the outer corners are.
+const REFERENCE: i64 = 60_000;
+
+const REACH: i64 = 250;
+
+// The ends of the table.
+const FIRST: i64 = REFERENCE - REACH;
+
+const LAST: i64 = REFERENCE + REACH;
+
+const LAST_PLACE: usize = 500;
 
 // The two bounds of a frequency, or its refusal with zeros.
 pub struct Bounds {
@@ -17,7 +30,7 @@ pub fn curve(frequency: Millihertz) -> Bounds
     ensures { λ r. ⌜ r ≡ curveAt frequency ⌝ }
 {
     let f = frequency.0;
-    if whole::within(f, 55_000, 65_000) {
+    if whole::within(f, limits::LEAST_FREQUENCY, limits::MOST_FREQUENCY) {
         return bounds_at(frequency);
     }
     Bounds {
@@ -46,16 +59,16 @@ pub fn place(frequency: Millihertz) -> usize
     ensures { λ r. ⌜ r ≡ placeAt (frequency .0) ⌝ }
 {
     let f = frequency.0;
-    if f < 59_750 {
+    if f < FIRST {
         return 0;
     }
-    if 60_250 < f {
-        return 500;
+    if LAST < f {
+        return LAST_PLACE;
     }
-    (f - 59_750) as usize
+    (f - FIRST) as usize
 }
 
-// The table: the upper and the lower bound of each millihertz from 59,750 on, one pair after the other. A run of seconds makes it once.
+// The table: the upper and the lower bound of each millihertz from FIRST to LAST, one pair after the other. A run of seconds makes it once.
 // In bytes a pair's place takes no shift.
 pub fn pairs() -> [i8; 1002]
     ensures { λ r. ⌜ r ≡ pairsOf ⌝ }

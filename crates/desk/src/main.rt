@@ -93,10 +93,11 @@ fn read_once(state: State, input: &mut [u8], numbers: &mut [i64], out: &mut [u8]
     }
 }
 
-// The input's end, and what it answers.
+// The input's end, which a chunk of no bytes is, and what it answers.
 fn close(state: State, numbers: &mut [i64], out: &mut [u8]) -> bool {
-    let finished = replies::finish(state, numbers, out);
-    let written = finished.written;
+    let none = [0u8; 1];
+    let fed = replies::feed(state, &none[..0], numbers, out);
+    let written = fed.written;
     io::write_all(1, &out[..written])
 }
 

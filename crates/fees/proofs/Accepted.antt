@@ -5,46 +5,40 @@ use contract.Lifetimes.{Lfts}
 use borrow.Fn.Kinds.{Dens, endedOf}
 use denote.Ref.{now}
 use denote.Triple.Clauses.{AtExit}
-use lib.IntN.{ℤ, _+ℤ_}
+use lib.IntN.{ℤ}
+use Rattle.units.specs.Units.{dollars}
 use Rattle.fees.specs.declared.Charged.{Charged}
-use Rattle.fees.specs.declared.LossFee.{LossFee}
-use Rattle.fees.specs.Fees.{granted, fee, qualityPart, energyFee}
-use Rattle.fees.specs.Loss.{basicFee, excessFee, added}
-use Rattle.fees.proofs.Laws.{FeeFits, fee-granted, QualityFits, quality-granted, EnergyFits, energy-granted}
-use Rattle.fees.proofs.LossLaws.{LossFits, loss-granted}
+use Rattle.fees.specs.declared.Exact.{Exact}
+use Rattle.fees.specs.Fees.{chargeOf, fee, qualityPart, energyFee, energyParts}
+use Rattle.fees.proofs.Laws.{FeeFits, fee-granted, QualityFits, quality-granted, EnergyFits, energy-granted, exact-granted}
 use Rattle.fees.proofs.fee.Reads as fee-reads
 use Rattle.fees.proofs.fee.Kinds as fee-kinds
 use Rattle.fees.proofs.quality_part.Reads as quality-reads
 use Rattle.fees.proofs.quality_part.Kinds as quality-kinds
 use Rattle.fees.proofs.energy_fee.Reads as energy-reads
 use Rattle.fees.proofs.energy_fee.Kinds as energy-kinds
-use Rattle.fees.proofs.loss_fee.Reads as loss-reads
-use Rattle.fees.proofs.loss_fee.Kinds as loss-kinds
+use Rattle.fees.proofs.energy_exact.Reads as exact-reads
+use Rattle.fees.proofs.energy_exact.Kinds as exact-kinds
 
 -- an amount with no refusal beside it
 abbrev pub plain : ℤ → Charged
-plain amount = record { refusal = 0; dollars = record { 0 = amount } }
+plain amount = record { refusal = 0; dollars = dollars amount }
 
 pub fee-accepted : (κs : Lfts 0) (a : Dens κs fee-kinds.ps) (x : Charged) (s : AtExit (endedOf 0 fee-kinds.ps fee-kinds.r) κs) → fee-reads.Post κs a x s
     → FeeFits (a .0) (a .1 .0) → x ≡ plain (fee (a .0) (a .1 .0 .0))
-unfolding granted
+unfolding chargeOf
 fee-accepted κs a x s p f = p ∙ fee-granted f
 
 pub quality-accepted : (κs : Lfts 0) (a : Dens κs quality-kinds.ps) (x : Charged) (s : AtExit (endedOf 0 quality-kinds.ps quality-kinds.r) κs) → quality-reads.Post κs a x s
     → QualityFits (a .0) (a .1 .0) (a .1 .1 .0) → x ≡ plain (qualityPart (a .0 .0) (a .1 .0 .0) (a .1 .1 .0))
-unfolding granted
+unfolding chargeOf
 quality-accepted κs a x s p f = p ∙ quality-granted f
 
 pub energy-accepted : (κs : Lfts 2) (a : Dens κs energy-kinds.ps) (x : Charged) (s : AtExit (endedOf 2 energy-kinds.ps energy-kinds.r) κs) → energy-reads.Post κs a x s
     → EnergyFits (now (a .0)) (now (a .1 .0)) (a .1 .1 .0) (a .1 .1 .1 .0) → x ≡ plain (energyFee (now (a .0)) (now (a .1 .0)) (a .1 .1 .0) (a .1 .1 .1 .0))
-unfolding granted
+unfolding chargeOf
 energy-accepted κs a x s p f = p ∙ energy-granted f
 
--- "Each is rounded to the nearest dollar and they are added"
-pub loss-accepted : (κs : Lfts 0) (a : Dens κs loss-kinds.ps) (x : LossFee) (s : AtExit (endedOf 0 loss-kinds.ps loss-kinds.r) κs) → loss-reads.Post κs a x s
-    → LossFits (a .0) (a .1 .0) (a .1 .1 .0) (a .1 .1 .1 .0)
-    → let basic = basicFee (a .0) (a .1 .0) (a .1 .1 .0) (a .1 .1 .1 .0) in
-    let excess = excessFee (a .0) (a .1 .0) (a .1 .1 .0) (a .1 .1 .1 .0) in
-    x ≡ record { refusal = 0; basic = record { 0 = basic }; excess = record { 0 = excess }; total = record { 0 = basic +ℤ excess } }
-unfolding added
-loss-accepted κs a x s p f = p ∙ loss-granted f
+pub exact-accepted : (κs : Lfts 2) (a : Dens κs exact-kinds.ps) (x : Exact) (s : AtExit (endedOf 2 exact-kinds.ps exact-kinds.r) κs) → exact-reads.Post κs a x s
+    → EnergyFits (now (a .0)) (now (a .1 .0)) (a .1 .1 .0) (a .1 .1 .1 .0) → x ≡ record { refusal = 0; parts = energyParts (now (a .0)) (now (a .1 .0)) (a .1 .1 .0) (a .1 .1 .1 .0) }
+exact-accepted κs a x s p f = p ∙ exact-granted f

@@ -7,8 +7,8 @@ use Rattle.fees.proofs.quality_part.Reads as quality-part
 use Rattle.fees.proofs.quality_part.Kinds as quality-part-kinds
 use Rattle.fees.proofs.energy_fee.Reads as energy-fee
 use Rattle.fees.proofs.energy_fee.Kinds as energy-fee-kinds
-use Rattle.fees.proofs.loss_fee.Reads as loss-fee
-use Rattle.fees.proofs.loss_fee.Kinds as loss-fee-kinds
+use Rattle.fees.proofs.energy_exact.Reads as energy-exact
+use Rattle.fees.proofs.energy_exact.Kinds as energy-exact-kinds
 
 fee-determined : Determined 0 fee-kinds.ps fee-kinds.r fee.Post
 fee-determined κs a x y s t p q = p ∙ sym q
@@ -19,5 +19,5 @@ quality-part-determined κs a x y s t p q = p ∙ sym q
 energy-fee-determined : Determined 2 energy-fee-kinds.ps energy-fee-kinds.r energy-fee.Post
 energy-fee-determined κs a x y s t p q = p ∙ sym q
 
-loss-fee-determined : Determined 0 loss-fee-kinds.ps loss-fee-kinds.r loss-fee.Post
-loss-fee-determined κs a x y s t p q = p ∙ sym q
+energy-exact-determined : Determined 2 energy-exact-kinds.ps energy-exact-kinds.r energy-exact.Post
+energy-exact-determined κs a x y s t p q = p ∙ sym q

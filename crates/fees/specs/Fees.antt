@@ -1,45 +1,44 @@
 -- Document 01, "Fees of one hour". A price is hundredths of a dollar per MW and hour, or per MWh; each fee is one exact fraction, rounded once.
-use Prim.Native.Nat.{ℕ, _*_}
-use mathlib.Core.Bool.{Bool, _&&_}
-use mathlib.Core.List.{List}
+use Prim.Native.Nat.{ℕ, _+_, _*_}
+use mathlib.Core.Bool.{_&&_}
+use mathlib.Core.List.{List, [], _∷_}
 use lib.Dec.{eqb}
 use lib.IntN.{ℤ, pos, negℤ, _+ℤ_, _*ℤ_}
 use lib.ListN.{length, getD, take, drop}
 use lib.Signed.{ltZ}
-use Rattle.whole.specs.Choice.{pick, unless, kept}
+use Rattle.whole.specs.Choice.{pick, inOrder, kept}
 use Rattle.whole.specs.Folds.{sumTo, sumOf}
-use Rattle.whole.specs.Whole.{minus, inRange, allInRange, nearest}
+use Rattle.whole.specs.Whole.{nearest}
 use Rattle.units.specs.Refusals.{wrongLength, badCapacity, badMoney, badReading, badBands, badTransfer}
+use Rattle.units.specs.Limits.{isCapacity, isPrice, mostFee, isFee, isFactor, arePowers, areTransfers, secondsOfHour, secondsOfQuarter}
+use Rattle.units.specs.Units.{dollars}
 use Rattle.units.specs.declared.Kilowatts.{Kilowatts}
 use Rattle.units.specs.declared.Dollars.{Dollars}
 use Rattle.fees.specs.declared.Charged.{Charged}
+use Rattle.fees.specs.declared.Exact.{Exact}
 
 -- a granted amount, and 0 beside the number of a refusal
-unfoldable pub granted : ℤ → Charged
-granted amount = record { refusal = 0; dollars = record { 0 = amount } }
+unfoldable pub chargeOf : ℤ → Charged
+chargeOf amount = record { refusal = 0; dollars = dollars amount }
 
-unfoldable pub refused : ℕ → Charged
-refused k = record { refusal = k; dollars = record { 0 = pos 0 } }
+unfoldable pub noCharge : ℕ → Charged
+noCharge k = record { refusal = k; dollars = dollars (pos 0) }
 
-abbrev pub answer : ℕ → ℤ → Charged
-answer k amount = kept k (granted amount) (refused k)
-
--- a price lies from 0 to 10,000,000
-abbrev pub isPrice : ℤ → Bool
-isPrice = inRange (pos 0) (pos 10000000)
+abbrev pub chargeBy : ℕ → ℤ → Charged
+chargeBy k amount = kept k (chargeOf amount) (noCharge k)
 
 -- ---- capacity fee and performance fee
 
 -- "nearest dollar of clearing price x capacity": hundredths of a dollar and kW, so over 100 x 1,000
 unfoldable pub fee : ℤ → ℤ → ℤ
-fee price capacity = nearest (price *ℤ capacity) 100000
+fee price capacity = nearest (price *ℤ capacity) (100 * 1000)
 
 -- 2, 3
-unfoldable pub feeRefusal : ℤ → Kilowatts → ℕ
-feeRefusal price capacity = unless (inRange (pos 1) (pos 100000) (capacity .0)) badCapacity (unless (isPrice price) badMoney 0)
+unfoldable pub chargeRefusal : ℤ → Kilowatts → ℕ
+chargeRefusal price capacity = inOrder ((isCapacity (capacity .0), badCapacity) ∷ (isPrice price, badMoney) ∷ [])
 
 unfoldable pub feeAnswer : ℤ → Kilowatts → Charged
-feeAnswer price capacity = answer (feeRefusal price capacity) (fee price (capacity .0))
+feeAnswer price capacity = chargeBy (chargeRefusal price capacity) (fee price (capacity .0))
 
 -- ---- quality part
 
@@ -50,12 +49,11 @@ qualityPart capacity performance factor = nearest ((capacity +ℤ performance) *
 -- 3, 5: a fee that no price and capacity bring, a factor that no band has
 unfoldable pub qualityRefusal : Dollars → Dollars → ℤ → ℕ
 qualityRefusal capacity performance factor =
-    unless (inRange (pos 0) (pos 10000000) (capacity .0) && inRange (pos 0) (pos 10000000) (performance .0)) badMoney
-    (unless (inRange (minus 240) (pos 10) factor) badBands 0)
+    inOrder ((isFee (capacity .0) && isFee (performance .0), badMoney) ∷ (isFactor factor, badBands) ∷ [])
 
 unfoldable pub qualityAnswer : Dollars → Dollars → ℤ → Charged
 qualityAnswer capacity performance factor =
-    answer (qualityRefusal capacity performance factor) (qualityPart (capacity .0) (performance .0) factor)
+    chargeBy (qualityRefusal capacity performance factor) (qualityPart (capacity .0) (performance .0) factor)
 
 -- ---- energy service fee
 
@@ -64,25 +62,48 @@ unfoldable pub signedPrice : ℤ → ℤ → ℤ → ℤ
 signedPrice discharge charge target = pick (ltZ (pos 0) target) discharge (pick (ltZ target (pos 0)) (negℤ charge) (pos 0))
 
 -- the powers of quarter q, counted from 0: "seconds 1 to 900, and so on"
-abbrev pub quarter : List ℤ → ℕ → List ℤ
-quarter powers q = take 900 (drop (q * 900) powers)
+abbrev pub quarterPowers : List ℤ → ℕ → List ℤ
+quarterPowers powers q = take secondsOfQuarter (drop (q * secondsOfQuarter) powers)
 
 -- "each quarter's mean power x price x 1/4 hour", before it is divided
 unfoldable pub quarterPart : List ℤ → List ℤ → ℤ → ℤ → ℕ → ℤ
-quarterPart powers targets discharge charge q = sumOf (quarter powers q) *ℤ signedPrice discharge charge (getD targets q (pos 0))
+quarterPart powers targets discharge charge q = sumOf (quarterPowers powers q) *ℤ signedPrice discharge charge (getD targets q (pos 0))
 
--- "The four are added exactly and rounded once": over 900 s, 1,000 kW, 100 hundredths and 4 quarters
+-- "The four are added exactly": in parts of a dollar, of which it has so many by the 4 quarters of an hour, the mean of 900 s, the 1,000 kW of a MW and the 100
+-- hundredths of a price
+abbrev pub energyParts : List ℤ → List ℤ → ℤ → ℤ → ℤ
+energyParts powers targets discharge charge = sumTo 4 (quarterPart powers targets discharge charge)
+
+abbrev pub partsOfDollar : ℕ
+partsOfDollar = 4 * secondsOfQuarter * 1000 * 100
+
+-- "and rounded once"
 unfoldable pub energyFee : List ℤ → List ℤ → ℤ → ℤ → ℤ
-energyFee powers targets discharge charge = nearest (sumTo 4 (quarterPart powers targets discharge charge)) 360000000
+energyFee powers targets discharge charge = nearest (energyParts powers targets discharge charge) partsOfDollar
+
+-- no fee is larger: 200 MW for an hour at 100,000 dollars; and no amount of an hour: both fees by the least factor, and that
+abbrev pub mostEnergyFee : ℕ
+mostEnergyFee = 200 * 100000
+
+abbrev pub mostHourAmount : ℕ
+mostHourAmount = 2 * mostFee * 24 + mostEnergyFee
 
 -- 1, 3, 10, 4
 unfoldable pub energyRefusal : List ℤ → List ℤ → ℤ → ℤ → ℕ
 energyRefusal powers targets discharge charge =
-    unless (eqb (length powers) 3600 && eqb (length targets) 4) wrongLength
-    (unless (isPrice discharge && isPrice charge) badMoney
-    (unless (allInRange (minus 100000) (pos 100000) targets) badTransfer
-    (unless (allInRange (minus 200000) (pos 200000) powers) badReading 0)))
+    inOrder (
+    (eqb (length powers) secondsOfHour && eqb (length targets) 4, wrongLength)
+    ∷ (isPrice discharge && isPrice charge, badMoney)
+    ∷ (areTransfers targets, badTransfer)
+    ∷ (arePowers powers, badReading)
+    ∷ [])
 
 unfoldable pub energyAnswer : List ℤ → List ℤ → ℤ → ℤ → Charged
 energyAnswer powers targets discharge charge =
-    answer (energyRefusal powers targets discharge charge) (energyFee powers targets discharge charge)
+    chargeBy (energyRefusal powers targets discharge charge) (energyFee powers targets discharge charge)
+
+-- what it is before it is rounded, or 0 beside the number of a refusal (document 02, #113)
+unfoldable pub energyExact : List ℤ → List ℤ → ℤ → ℤ → Exact
+energyExact powers targets discharge charge =
+    let k = energyRefusal powers targets discharge charge in
+    kept k (record { refusal = 0; parts = energyParts powers targets discharge charge }) (record { refusal = k; parts = pos 0 })

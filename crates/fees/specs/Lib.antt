@@ -1,3 +1,2 @@
--- The fees of one hour, and the loss fee.
+-- The fees of one hour.
 pub mod Fees
-pub mod Loss

@@ -8,14 +8,14 @@ use Rattle.whole.specs.Whole.{inRange, allInRange, apart, withSign, halfUp, rou
 use Rattle.curve.specs.Curve.{upperAt, lowerAt}
 use Rattle.ramp.specs.Ramp.{rampAt}
 use Rattle.score.specs.Score.{scoreOf}
-use Rattle.score.specs.Rolling.{rolling}
-use Rattle.bands.specs.Bands.{fall, bandsFit, bandsRefusal, placeOf, factorRefusal, answer, factorAnswer}
+use Rattle.rate.specs.Rolling.{rolling}
+use Rattle.bands.specs.Bands.{fall, bandsFit, bandsRefusal, firstPlace, factorRefusal, withFactor, factorAnswer}
 use Rattle.fees.specs.Fees.{qualityPart, signedPrice, quarterPart, energyFee}
-use Rattle.fees.specs.Loss.{atLeastZero, percent, basicFee, excessFee}
+use Rattle.loss.specs.Loss.{atLeastZero, percent, basicFee, excessFee}
 use Rattle.figures.specs.Figures.{side, figures, Agree}
 
 figures-agree : Agree figures
-unfolding figures foldTo inRange allInRange apart withSign halfUp roundUp nearest away upperAt lowerAt rampAt scoreOf rolling fall bandsFit bandsRefusal placeOf factorRefusal answer factorAnswer qualityPart signedPrice quarterPart energyFee atLeastZero percent basicFee excessFee
+unfolding figures foldTo inRange allInRange apart withSign halfUp roundUp nearest away upperAt lowerAt rampAt scoreOf rolling fall bandsFit bandsRefusal firstPlace factorRefusal withFactor factorAnswer qualityPart signedPrice quarterPart energyFee atLeastZero percent basicFee excessFee
 figures-agree = (
   refl,
   (

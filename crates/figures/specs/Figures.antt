@@ -1,23 +1,23 @@
 -- Document 01, "Worked figures": those marked P, in one list. A figure is what the definitions come to beside what the paper prints.
 use Prim.Native.Nat.{ℕ}
 use mathlib.Core.Path.{_≡_}
-use mathlib.Core.List.{List, [], _∷_, _++_, map}
+use mathlib.Core.List.{List, [], _∷_, _++_}
 use lib.IntN.{ℤ, pos}
 use lib.ListN.{replicate}
 use Rattle.whole.specs.Whole.{minus}
 use Rattle.curve.specs.Curve.{upperAt, lowerAt}
 use Rattle.ramp.specs.Ramp.{rampAt}
 use Rattle.score.specs.Score.{scoreOf}
-use Rattle.score.specs.Rolling.{rolling}
+use Rattle.rate.specs.Rolling.{rolling}
 use Rattle.bands.specs.Bands.{factorAnswer}
 use Rattle.fees.specs.Fees.{qualityPart, energyFee}
-use Rattle.fees.specs.Loss.{basicFee, excessFee}
+use Rattle.loss.specs.Loss.{basicFee, excessFee}
 
-pub record Figure : Type 0 where
+pub record Compared : Type 0 where
   pub computed : ℤ
   pub printed : ℤ
 
-abbrev pub figure : ℤ → ℤ → Figure
+abbrev pub figure : ℤ → ℤ → Compared
 figure computed printed = record { computed = computed; printed = printed }
 
 -- list S: 95:10, 94:8, 93:6, 92:4, 91:2, 70:0, 0:-10
@@ -39,7 +39,7 @@ abbrev pub rolled : List ℕ
 rolled = 100 ∷ 100 ∷ 100 ∷ 100 ∷ 90 ∷ 90 ∷ 95 ∷ 100 ∷ 100 ∷ 100 ∷ 100 ∷ []
 
 -- what is computed beside what is printed; a number that stands alone has -1 beside it, which is no rate, so that it cannot agree
-abbrev pub side : List ℕ → List ℕ → List Figure
+abbrev pub side : List ℕ → List ℕ → List Compared
 side [] [] = []
 side [] (y ∷ ys) = figure (minus 1) (pos y) ∷ side [] ys
 side (x ∷ xs) [] = figure (pos x) (minus 1) ∷ side xs []
@@ -49,10 +49,10 @@ side (x ∷ xs) (y ∷ ys) = figure (pos x) (pos y) ∷ side xs ys
 abbrev pub charging : List ℤ
 charging = replicate 900 (minus 3000) ++ (replicate 900 (minus 2900) ++ (replicate 900 (pos 100) ++ replicate 900 (minus 3200)))
 
-abbrev pub down : List ℤ
-down = minus 3000 ∷ minus 3000 ∷ minus 3000 ∷ minus 3000 ∷ []
+abbrev pub chargingTargets : List ℤ
+chargingTargets = minus 3000 ∷ minus 3000 ∷ minus 3000 ∷ minus 3000 ∷ []
 
-unfoldable pub figures : List Figure
+unfoldable pub figures : List Compared
 figures =
     -- curve at 59,900; 59,920; 60,080; 59,980; 59,750
     figure (upperAt (pos 59900)) (pos 38)
@@ -78,7 +78,7 @@ figures =
     ∷ figure (quality 94 (pos 4350) (pos 3500)) (pos 6280)
     ∷ figure (quality 69 (pos 4400) (pos 3500)) (minus 7900)
     -- charging at 500 dollars
-    ∷ figure (energyFee charging down (pos 0) (pos 50000)) (pos 1125)
+    ∷ figure (energyFee charging chargingTargets (pos 0) (pos 50000)) (pos 1125)
     -- 120,000 kWh in, 84,000 out, 1.05, 4 dollars; with 96,000 out the excess is 0
     ∷ figure (basicFee (pos 120000) (pos 84000) (pos 22800) (pos 40000)) (pos 151200)
     ∷ figure (excessFee (pos 120000) (pos 84000) (pos 22800) (pos 40000)) (pos 100800)
@@ -87,6 +87,6 @@ figures =
     ∷ side (rolling [] scores) rolled
 
 -- every figure is what the paper prints
-abbrev pub Agree : List Figure → Type 0
+abbrev pub Agree : List Compared → Type 0
 Agree [] = Unit {0}
 Agree (f ∷ fs) = (f .computed ≡ f .printed) × Agree fs

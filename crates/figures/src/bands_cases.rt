@@ -3,7 +3,7 @@ use crate::text;
 use bands::Factored;
 
 // Document 01's list S.
-pub(crate) fn list_s(rate: u8) -> Factored {
+fn list_s(rate: u8) -> Factored {
     let thresholds = [95i64, 94, 93, 92, 91, 70, 0];
     let factors = [10i64, 8, 6, 4, 2, 0, -10];
     bands::factor(&thresholds, &factors, rate)

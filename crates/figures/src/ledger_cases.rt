@@ -34,7 +34,7 @@ fn read_out(m: Month) {
     let s = m.standing();
     text::number(s.refusal as i64);
     io::write_all(1, b" ");
-    io::print_decimal(1, s.hours as u64);
+    io::print_decimal(1, s.standing as u64);
     text::end();
 }
 
@@ -169,7 +169,7 @@ pub(crate) fn forged() {
     m.amounts[0] = 1;
     forge(b"forged: an amount in an empty place", m);
     let mut m = opened(30);
-    m.filled[720] = true;
+    m.marks[720] = true;
     forge(b"forged: a filled place past the month's end", m);
     let mut m = opened(30);
     m.days = 27;
@@ -179,7 +179,7 @@ pub(crate) fn forged() {
     m.fee = fee;
     forge(b"forged: a fee below 0", m);
     let mut m = opened(30);
-    m.filled[5] = true;
+    m.marks[5] = true;
     m.amounts[5] = 1_000_000_001;
     forge(b"forged: an amount past the limit", m);
     forge(b"forged: what a refused open hands back", opened(0));

@@ -1,7 +1,24 @@
 // The transfer ramp.
-use crate::readings;
 use crate::text;
 use units::Kilowatts;
+
+const MODULUS: u64 = 4_294_967_296;
+
+// The sum with one number more; the order of the numbers counts.
+fn mixed(sum: u64, number: u64) -> u64 {
+    (sum % MODULUS * 31 + number % MODULUS) % MODULUS
+}
+
+fn check_sum(run: &[i64]) -> u64 {
+    let mut sum = 0;
+    let mut i = 0;
+    while i < run.len() {
+        let x = run[i];
+        sum = mixed(mixed(sum, (x < 0) as u64), whole::size(x));
+        i += 1;
+    }
+    sum
+}
 
 // The second that comes after so many, and its transfer.
 fn show(run: &[i64], passed: u16) {
@@ -39,7 +56,7 @@ fn fill(label: &[u8], last: i64, target: i64, run: &mut [i64]) {
     let k = ramp::ramp(Kilowatts(last), Kilowatts(target), run);
     io::write_all(1, label);
     text::byte(k);
-    text::count(readings::check_sum(run));
+    text::count(check_sum(run));
     text::end();
 }
 

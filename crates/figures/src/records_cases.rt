@@ -2,10 +2,10 @@
 ghost use mathlib.Core.Path.{_≡_};
 ghost use Prim.Native.Nat.{_≤_};
 ghost use lib.ListN.{take};
-ghost use Rattle.bands.specs.Records.{recordsRefusal, recordsAnswer};
+ghost use Rattle.records.specs.Records.{recordsRefusal, recordsAnswer};
 use crate::text;
-use bands::Band;
 use bands::Factored;
+use records::Band;
 
 // What the two functions answer: the list's check, and the factor of a rate.
 struct Told {
@@ -19,8 +19,8 @@ fn asked(list: [Band; 17], n: usize, rate: u8) -> Told
     ensures { λ r. ⌜ r ≡ record { check = recordsRefusal (take n list); found = recordsAnswer (take n list) rate } ⌝ }
 {
     let records = &list[..n];
-    let check = bands::check_bands(records);
-    let found = bands::factor_of(records, rate);
+    let check = records::check_bands(records);
+    let found = records::factor_of(records, rate);
     Told {
         check: check,
         found: found,
@@ -84,22 +84,33 @@ fn seventeen() -> [Band; 17] {
     list
 }
 
-pub(crate) fn records() {
-    text::heading(b"records");
+// The first n records of list S.
+fn of_list_s(label: &[u8], n: usize, rate: u8)
+    requires { ⌜ n ≤ 17 ⌝ }
+{
+    show(label, list_s(), n, rate);
+}
+
+fn changed() {
     let mut list = list_s();
-    show(b"list S", list, 7, 100);
-    show(b"list S", list, 7, 95);
-    show(b"list S", list, 7, 94);
-    show(b"list S", list, 7, 70);
-    show(b"list S", list, 7, 69);
-    show(b"list S", list, 7, 0);
-    show(b"list S", list, 7, 101);
-    show(b"last not 0", list, 6, 95);
-    show(b"none", list, 0, 95);
     list[1] = band(95, 8);
     show(b"equal thresholds", list, 7, 94);
     let mut many = seventeen();
     show(b"seventeen", many, 17, 95);
     many[15] = band(0, -5);
     show(b"sixteen", many, 16, 69);
+}
+
+pub(crate) fn records() {
+    text::heading(b"records");
+    of_list_s(b"list S", 7, 100);
+    of_list_s(b"list S", 7, 95);
+    of_list_s(b"list S", 7, 94);
+    of_list_s(b"list S", 7, 70);
+    of_list_s(b"list S", 7, 69);
+    of_list_s(b"list S", 7, 0);
+    of_list_s(b"list S", 7, 101);
+    of_list_s(b"last not 0", 6, 95);
+    of_list_s(b"none", 0, 95);
+    changed();
 }

@@ -1,5 +1,4 @@
 // A second's score and an hour's rate.
-use crate::readings;
 use crate::text;
 use units::Kilowatts;
 use units::Millihertz;
@@ -80,47 +79,66 @@ fn repeat(pattern: &[u8], scores: &mut [u8]) {
 }
 
 fn rate(label: &[u8], scores: &[u8]) {
-    let r = score::hourly_rate(scores);
+    let r = rate::hourly_rate(scores);
     io::write_all(1, label);
     text::byte(r.refusal);
     text::byte(r.rate);
     text::end();
 }
 
+fn chosen_score(taken: bool, score: u8, old: u8) -> u8 {
+    if taken { score } else { old }
+}
+
+// The same score from a place on, up to another or the run's end.
+fn score_stretch(run: &mut [u8], from: usize, to: usize, score: u8) {
+    let mut i = from;
+    while i < run.len() {
+        let old = run[i];
+        let x = chosen_score(i < to, score, old);
+        run[i] = x;
+        i += 1;
+    }
+}
+
 // An hour of 100 with one score from a place on, up to another.
-fn stumble(label: &[u8], scores: &mut [u8], from: usize, to: usize, score: u8) {
-    readings::score_stretch(scores, 0, 3_600, 100);
-    readings::score_stretch(scores, from, to, score);
-    rate(label, scores);
+fn stumble(label: &[u8], from: usize, to: usize, score: u8) {
+    let mut scores = [100u8; 3600];
+    score_stretch(&mut scores, from, to, score);
+    rate(label, &scores);
 }
 
-fn stumbles(scores: &mut [u8]) {
-    stumble(b"steady", scores, 0, 0, 0);
-    stumble(b"three zeros", scores, 1_000, 1_003, 0);
-    stumble(b"four zeros", scores, 1_000, 1_004, 0);
-    stumble(b"four at 94", scores, 2_000, 2_004, 94);
+fn stumbles() {
+    stumble(b"steady", 0, 0, 0);
+    stumble(b"three zeros", 1_000, 1_003, 0);
+    stumble(b"four zeros", 1_000, 1_004, 0);
+    stumble(b"four at 94", 2_000, 2_004, 94);
+    stumble(b"a zero first", 0, 1, 0);
+    stumble(b"three at 70 last", 3_597, 3_600, 70);
+    stumble(b"four at 70 last", 3_596, 3_600, 70);
+    stumble(b"a score of 101", 3_599, 3_600, 101);
+    stumble(b"a score of 255", 0, 1, 255);
 }
 
-fn stumbles_at_the_ends(scores: &mut [u8]) {
-    stumble(b"a zero first", scores, 0, 1, 0);
-    stumble(b"three at 70 last", scores, 3_597, 3_600, 70);
-    stumble(b"four at 70 last", scores, 3_596, 3_600, 70);
-    stumble(b"a score of 101", scores, 3_599, 3_600, 101);
-    stumble(b"a score of 255", scores, 0, 1, 255);
-}
-
-pub(crate) fn rates() {
-    text::heading(b"document 001, table 2: rolling rates and the hourly rate");
+fn table_2() {
     let mut scores = [0u8; 3600];
     let eleven = [100u8, 90, 50, 90, 90, 70, 95, 100, 100, 60, 100];
     repeat(&eleven, &mut scores);
     rate(b"table 2 over and over", &scores);
-    stumbles(&mut scores);
-    stumbles_at_the_ends(&mut scores);
+}
+
+fn lengths() {
     let short = [100u8; 3599];
     rate(b"3,599 scores", &short);
     let long = [101u8; 3601];
     rate(b"3,601 scores of 101", &long);
     let none = [0u8; 0];
     rate(b"no score", &none);
+}
+
+pub(crate) fn rates() {
+    text::heading(b"document 001, table 2: rolling rates and the hourly rate");
+    table_2();
+    stumbles();
+    lengths();
 }

@@ -11,7 +11,7 @@ use denote.Triple.Clauses.{AtExit}
 use borrow.Fn.Kinds.{Dens, GoodsP, endedOf}
 use Rattle.units.proofs.Dollars as dollars
 use Rattle.units.proofs.Dollars.Laws as dollars-laws
-use Rattle.frame.specs.Frame.{readingOf}
+use Rattle.frame.specs.Frame.{lineDigits, readingOf}
 use Rattle.frame.specs.declared.Reading.{Reading}
 use Rattle.frame.specs.declared.Reading.the-variants.{Frame}
 use Rattle.frame.proofs.Entry as entry
@@ -41,7 +41,7 @@ module _ (κs : Lfts 1) (a : Dens κs write-frame-kinds.ps) (r : ℕ) (s : AtExi
 
     pub read-writes :
         read-frame.Post ηs b x t → x ≡ Frame (a .0) →
-        write-frame.Post κs a r s → length (now (a .1 .0)) ≡ 24 → (r ≡ 0) × (now (s .1 .0) ≡ now (b .0))
+        write-frame.Post κs a r s → length (now (a .1 .0)) ≡ lineDigits → (r ≡ 0) × (now (s .1 .0) ≡ now (b .0))
     read-writes q f p l =
         let w = filled-read (now (b .0)) (a .0) (sym q ∙ f) (now (a .1 .0)) l in
         (p .0 ∙ w .0, p .1 ∙ w .1)

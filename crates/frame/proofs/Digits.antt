@@ -14,22 +14,22 @@ use Rattle.whole.specs.Folds.{foldTo}
 use Rattle.whole.proofs.Choice.{clash, and-both, by-test}
 use Rattle.whole.proofs.Folds.{all-at}
 use Rattle.whole.proofs.Runs.{rest, no-rest}
-use Rattle.frame.specs.Digits.{digitOf, valueOf, isDigit, allDigits, digitsOf, bytesOf}
+use Rattle.frame.specs.Digits.{hexDigitOf, hexValueOf, isHexDigit, allDigits, digitsOf, bytesOf}
 use Rattle.frame.proofs.Numbers.{Bytes}
 
 -- ---- one digit
 
 -- a value below 16 has a digit, and is the value of that digit
-pub digit-is : (v : ℕ) → v < 16 → isDigit (digitOf v) ≡ true
-unfolding isDigit digitOf foldTo
-digit-is v h = all-at 16 (λ v. isDigit (digitOf v)) refl v h
+pub digit-is : (v : ℕ) → v < 16 → isHexDigit (hexDigitOf v) ≡ true
+unfolding isHexDigit hexDigitOf foldTo
+digit-is v h = all-at 16 (λ v. isHexDigit (hexDigitOf v)) refl v h
 
-pub value-digit : (v : ℕ) → v < 16 → valueOf (digitOf v) ≡ v
-unfolding valueOf digitOf foldTo
-value-digit v h = eqb-true (valueOf (digitOf v)) v (all-at 16 (λ v. eqb (valueOf (digitOf v)) v) refl v h)
+pub value-digit : (v : ℕ) → v < 16 → hexValueOf (hexDigitOf v) ≡ v
+unfolding hexValueOf hexDigitOf foldTo
+value-digit v h = eqb-true (hexValueOf (hexDigitOf v)) v (all-at 16 (λ v. eqb (hexValueOf (hexDigitOf v)) v) refl v h)
 
-digit-below : (d : ℕ) → isDigit d ≡ true → d < 71
-unfolding isDigit
+digit-below : (d : ℕ) → isHexDigit d ≡ true → d < 71
+unfolding isHexDigit
 digit-below d e =
     by-test (ltb d 71)
     (λ (t : ltb d 71 ≡ true). ltb-true d 71 t)
@@ -37,8 +37,8 @@ digit-below d e =
     let h = ltb-false d 71 t in
     clash (simp (le-leb 48 d (omega arith), le-ltb d 58 (omega arith), le-leb 65 d (omega arith), t) at e))
 
-pub digit-from : (d : ℕ) → isDigit d ≡ true → 48 ≤ d
-unfolding isDigit
+pub digit-from : (d : ℕ) → isHexDigit d ≡ true → 48 ≤ d
+unfolding isHexDigit
 digit-from d e =
     by-test (ltb d 48)
     (λ (t : ltb d 48 ≡ true).
@@ -48,19 +48,19 @@ digit-from d e =
 
 -- a digit has a value below 16, and is the digit of that value
 abbrev Back : ℕ → Bool
-Back d = ltb (valueOf d) 16 && eqb (digitOf (valueOf d)) d
+Back d = ltb (hexValueOf d) 16 && eqb (hexDigitOf (hexValueOf d)) d
 
-digit-back : (d : ℕ) → isDigit d ≡ true → (ltb (valueOf d) 16 ≡ true) × (eqb (digitOf (valueOf d)) d ≡ true)
-unfolding isDigit valueOf digitOf foldTo
+digit-back : (d : ℕ) → isHexDigit d ≡ true → (ltb (hexValueOf d) 16 ≡ true) × (eqb (hexDigitOf (hexValueOf d)) d ≡ true)
+unfolding isHexDigit hexValueOf hexDigitOf foldTo
 digit-back d e =
-    and-both (ltb (valueOf d) 16) (eqb (digitOf (valueOf d)) d)
-    (subst (λ (t : Bool). not t || Back d ≡ true) e (all-at 71 (λ d. not (isDigit d) || Back d) refl d (digit-below d e)))
+    and-both (ltb (hexValueOf d) 16) (eqb (hexDigitOf (hexValueOf d)) d)
+    (subst (λ (t : Bool). not t || Back d ≡ true) e (all-at 71 (λ d. not (isHexDigit d) || Back d) refl d (digit-below d e)))
 
-pub value-below : (d : ℕ) → isDigit d ≡ true → valueOf d < 16
-value-below d e = ltb-true (valueOf d) 16 (digit-back d e .0)
+pub value-below : (d : ℕ) → isHexDigit d ≡ true → hexValueOf d < 16
+value-below d e = ltb-true (hexValueOf d) 16 (digit-back d e .0)
 
-pub digit-value : (d : ℕ) → isDigit d ≡ true → digitOf (valueOf d) ≡ d
-digit-value d e = eqb-true (digitOf (valueOf d)) d (digit-back d e .1)
+pub digit-value : (d : ℕ) → isHexDigit d ≡ true → hexDigitOf (hexValueOf d) ≡ d
+digit-value d e = eqb-true (hexDigitOf (hexValueOf d)) d (digit-back d e .1)
 
 -- ---- the digits of bytes
 
@@ -87,10 +87,10 @@ bytes-digits (b ∷ bs) h =
 -- ---- the bytes of digits
 
 -- a line of digits: the first two, and the others
-two-digits : (h l : ℕ) (ds : List ℕ) → allDigits (h ∷ l ∷ ds) ≡ true → (isDigit h ≡ true) × (isDigit l ≡ true) × (allDigits ds ≡ true)
+two-digits : (h l : ℕ) (ds : List ℕ) → allDigits (h ∷ l ∷ ds) ≡ true → (isHexDigit h ≡ true) × (isHexDigit l ≡ true) × (allDigits ds ≡ true)
 two-digits h l ds a =
-    let p = and-both (isDigit h) (isDigit l && allDigits ds) a in
-    let q = and-both (isDigit l) (allDigits ds) (p .1) in
+    let p = and-both (isHexDigit h) (isHexDigit l && allDigits ds) a in
+    let q = and-both (isHexDigit l) (allDigits ds) (p .1) in
     (p .0, q .0, q .1)
 
 pub length-bytesOf : (n : ℕ) (ds : List ℕ) → length ds ≡ 2 * n → length (bytesOf ds) ≡ n
@@ -112,8 +112,8 @@ digits-bytes n (h ∷ []) e a = absurd (omega arith)
 digits-bytes n (h ∷ l ∷ ds) e a =
     let t = two-digits h l ds a in
     let v = value-below l (t .1) in
-    let p : (valueOf h * 16 + valueOf l) / 16 ≡ valueOf h = omega arith in
-    let q : (valueOf h * 16 + valueOf l) % 16 ≡ valueOf l = omega arith in
+    let p : (hexValueOf h * 16 + hexValueOf l) / 16 ≡ hexValueOf h = omega arith in
+    let q : (hexValueOf h * 16 + hexValueOf l) % 16 ≡ hexValueOf l = omega arith in
     rw (p, q, digit-value h (t .0), digit-value l (t .1), digits-bytes (n - 1) ds (omega arith) (t .2))
 
 -- ---- loops: a run that is filled from the front, with more to come
@@ -137,11 +137,11 @@ module _ (l run : List ℕ) (n i : ℕ) (even : length l ≡ 2 * n) (same : leng
   abbrev low : ℕ
   low = getD l (2 * i + 1) 0
 
-  pub two-next : allDigits (drop (2 * i) l) ≡ true → i < length run → (isDigit high ≡ true) × (isDigit low ≡ true) × (allDigits (drop (2 * (i + 1)) l) ≡ true)
+  pub two-next : allDigits (drop (2 * i) l) ≡ true → i < length run → (isHexDigit high ≡ true) × (isHexDigit low ≡ true) × (allDigits (drop (2 * (i + 1)) l) ≡ true)
   two-next a h = two-digits high low (drop (2 * (i + 1)) l) (sym (ap allDigits (two-left l i (omega arith))) ∙ a)
 
   pub decode-next : take i run ++ bytesOf (drop (2 * i) l) ≡ bytesOf l → i < length run
-      → take (i + 1) (set run i (valueOf high * 16 + valueOf low)) ++ bytesOf (drop (2 * (i + 1)) l) ≡ bytesOf l
+      → take (i + 1) (set run i (hexValueOf high * 16 + hexValueOf low)) ++ bytesOf (drop (2 * (i + 1)) l) ≡ bytesOf l
   decode-next e h = fill-next run i _ _ h ∙ ap (λ (r : List ℕ). take i run ++ bytesOf r) (sym (two-left l i (omega arith))) ∙ e
 
   pub decode-done : take i run ++ bytesOf (drop (2 * i) l) ≡ bytesOf l → length run ≤ i → run ≡ bytesOf l
@@ -155,7 +155,7 @@ and-next true b c = refl
 and-next false b c = refl
 
 pub digits-next : (l : List ℕ) (i : ℕ) (all : Bool) → allDigits l ≡ all && allDigits (drop i l) → i < length l
-    → allDigits l ≡ (all && isDigit (getD l i 0)) && allDigits (drop (i + 1) l)
+    → allDigits l ≡ (all && isHexDigit (getD l i 0)) && allDigits (drop (i + 1) l)
 digits-next l i all e h = e ∙ ap (λ (r : List ℕ). all && allDigits r) (rest l i 0 h) ∙ and-next all _ _
 
 pub digits-done : (l : List ℕ) (i : ℕ) (all : Bool) → allDigits l ≡ all && allDigits (drop i l) → length l ≤ i → all ≡ allDigits l
@@ -165,7 +165,7 @@ digits-done l i all e h = sym (e ∙ ap (λ (r : List ℕ). all && allDigits r) 
 module _ (bs run : List ℕ) (n i : ℕ) (even : n ≡ 2 * length bs) (same : length run ≡ n)
     (left : take (2 * i) run ++ digitsOf (drop i bs) ≡ digitsOf bs) where
   pub encode-next : i < length bs
-      → take (2 * (i + 1)) (set (set run (2 * i) (digitOf (getD bs i 0 / 16))) (2 * i + 1) (digitOf (getD bs i 0 % 16))) ++ digitsOf (drop (i + 1) bs) ≡ digitsOf bs
+      → take (2 * (i + 1)) (set (set run (2 * i) (hexDigitOf (getD bs i 0 / 16))) (2 * i + 1) (hexDigitOf (getD bs i 0 % 16))) ++ digitsOf (drop (i + 1) bs) ≡ digitsOf bs
   encode-next h =
       let m : 2 * (i + 1) ≡ 2 * i + 1 + 1 = omega arith in
       rw m

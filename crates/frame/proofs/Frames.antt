@@ -10,12 +10,11 @@ use lib.ListN.{length, getD, take, drop, set, drop-of-length-le, length-set}
 use lib.Seq.{drop-cons, length-take-le, set-at, take-at}
 use borrow.Author.Tests.{ne-eqb, eq-eqb, eqb-true}
 use borrow.Rule.Slice.PartMut.{putMid, midOf, same-len-mid}
-use Rattle.whole.specs.Choice.{unless}
-use Rattle.whole.proofs.Choice.{passed, kept-new, kept-old}
+use Rattle.whole.proofs.Choice.{all-passed, kept-new, kept-old}
 use Rattle.units.specs.Refusals.{wrongLength, badDigit, badSum, badKind}
 use Rattle.frame.specs.Digits.{allDigits, bytesOf}
 use Rattle.frame.specs.Numbers.{bytesIn, byteSum}
-use Rattle.frame.specs.Frame.{checked, lineRefusal, zeros, openedOf, inForm, entryOf, readRefusal, readingOf, bodyOf, summed, lineOf, writeRefusal, written}
+use Rattle.frame.specs.Frame.{lineDigits, checked, lineRefusal, zeros, openedOf, inForm, entryOf, readRefusal, readingOf, bodyOf, withSum, lineOf, writeRefusal, written}
 use Rattle.frame.specs.declared.Entry.{Entry}
 use Rattle.frame.specs.declared.Opened.{Opened}
 use Rattle.frame.specs.declared.Reading.the-variants.{Frame, Refused}
@@ -26,22 +25,22 @@ abbrev pub away : ℕ → Opened
 away k = record { refusal = k; bytes = zeros }
 
 module _ (line : List ℕ) where
-  pub opened-length : (length line ≡ 24 → ⊥) → away wrongLength ≡ openedOf line
+  pub opened-length : (length line ≡ lineDigits → ⊥) → away wrongLength ≡ openedOf line
   unfolding openedOf lineRefusal
-  opened-length h = rw (ne-eqb (length line) 24 h)
+  opened-length h = rw (ne-eqb (length line) lineDigits h)
 
-  pub opened-digit : length line ≡ 24 → allDigits line ≡ false → away badDigit ≡ openedOf line
+  pub opened-digit : length line ≡ lineDigits → allDigits line ≡ false → away badDigit ≡ openedOf line
   unfolding openedOf lineRefusal
-  opened-digit h d = rw (eq-eqb (length line) 24 h, d)
+  opened-digit h d = rw (eq-eqb (length line) lineDigits h, d)
 
-  pub opened-sum : (bytes : List ℕ) → length line ≡ 24 → allDigits line ≡ true → bytes ≡ bytesOf line → checked bytes ≡ false → away badSum ≡ openedOf line
+  pub opened-sum : (bytes : List ℕ) → length line ≡ lineDigits → allDigits line ≡ true → bytes ≡ bytesOf line → checked bytes ≡ false → away badSum ≡ openedOf line
   unfolding openedOf lineRefusal
-  opened-sum bytes h d e s = rw (eq-eqb (length line) 24 h, d, rw e at s)
+  opened-sum bytes h d e s = rw (eq-eqb (length line) lineDigits h, d, rw e at s)
 
-  pub opened-right : (bytes : List ℕ) → length line ≡ 24 → allDigits line ≡ true → bytes ≡ bytesOf line → checked bytes ≡ true
+  pub opened-right : (bytes : List ℕ) → length line ≡ lineDigits → allDigits line ≡ true → bytes ≡ bytesOf line → checked bytes ≡ true
       → _≡_ {A = Opened} (record { refusal = 0; bytes = bytes }) (openedOf line)
   unfolding openedOf lineRefusal
-  opened-right bytes h d e s = rw (eq-eqb (length line) 24 h, d, rw e at s, e)
+  opened-right bytes h d e s = rw (eq-eqb (length line) lineDigits h, d, rw e at s, e)
 
   -- what the answer holds
   pub opened-number : openedOf line .refusal ≡ lineRefusal line
@@ -78,24 +77,24 @@ module _ (entry : Entry) (run : List ℕ) where
   write-right h = sym (kept-new (lineOf entry) run h)
 
   -- 1, then 13
-  pub length-refuses : (length run ≡ 24 → ⊥) → writeRefusal entry (length run) ≡ 1
+  pub length-refuses : (length run ≡ lineDigits → ⊥) → writeRefusal entry (length run) ≡ 1
   unfolding writeRefusal
-  length-refuses h = rw (ne-eqb (length run) 24 h)
+  length-refuses h = rw (ne-eqb (length run) lineDigits h)
 
-  pub form-refuses : length run ≡ 24 → inForm entry ≡ false → writeRefusal entry (length run) ≡ 13
+  pub form-refuses : length run ≡ lineDigits → inForm entry ≡ false → writeRefusal entry (length run) ≡ 13
   unfolding writeRefusal
-  form-refuses h f = rw (eq-eqb (length run) 24 h, f)
+  form-refuses h f = rw (eq-eqb (length run) lineDigits h, f)
 
   -- what it takes
-  pub taken : writeRefusal entry (length run) ≡ 0 → (length run ≡ 24) × (inForm entry ≡ true)
+  pub taken : writeRefusal entry (length run) ≡ 0 → (length run ≡ lineDigits) × (inForm entry ≡ true)
   unfolding writeRefusal
   taken h =
-      let a = passed (eqb (length run) 24) 0 (unless (inForm entry) badKind 0) h in
-      (eqb-true (length run) 24 (a .0), passed (inForm entry) 12 0 (a .1) .0)
+      let p = all-passed ((eqb (length run) lineDigits, wrongLength) ∷ (inForm entry, badKind) ∷ []) refl h in
+      (eqb-true (length run) lineDigits (p .0), p .1 .0)
 
-  pub takes : length run ≡ 24 → inForm entry ≡ true → writeRefusal entry (length run) ≡ 0
+  pub takes : length run ≡ lineDigits → inForm entry ≡ true → writeRefusal entry (length run) ≡ 0
   unfolding writeRefusal
-  takes h f = rw (eq-eqb (length run) 24 h, f)
+  takes h f = rw (eq-eqb (length run) lineDigits h, f)
 
 -- ---- twelve bytes in a run
 
@@ -137,8 +136,8 @@ module _ (bytes body : List ℕ) (twelve : length bytes ≡ 12) (same : length b
   pub length-taken : length (take 11 (body ++ drop 11 bytes)) ≡ 11
   length-taken = ap length take-body ∙ eleven-body
 
-  pub put-sum : (s : ℕ) → s ≡ byteSum (take 11 (body ++ drop 11 bytes)) % 256 → set (body ++ drop 11 bytes) 11 s ≡ summed body
-  unfolding summed
+  pub put-sum : (s : ℕ) → s ≡ byteSum (take 11 (body ++ drop 11 bytes)) % 256 → set (body ++ drop 11 bytes) 11 s ≡ withSum body
+  unfolding withSum
   put-sum s h =
       let d : drop 11 bytes ≡ getD bytes 11 0 ∷ [] =
       drop-cons bytes 11 0 (omega arith) ∙ ap (λ (r : List ℕ). getD bytes 11 0 ∷ r) (drop-of-length-le bytes {i = 12} (omega arith)) in

@@ -12,13 +12,12 @@ use lib.Seq.{take-at, length-take-le}
 use mir.Syntax.{w64}
 use mir.Val.{SFits}
 use borrow.Author.Tests.{eq-eqb, eqb-true}
-use Rattle.whole.specs.Choice.{pick, unless}
-use Rattle.whole.proofs.Choice.{clash, both-passed}
-use Rattle.whole.proofs.Choice as choice
+use Rattle.whole.specs.Choice.{pick}
+use Rattle.whole.proofs.Choice.{clash, both-passed, all-passed}
 use Rattle.units.specs.Refusals.{badKind}
 use Rattle.frame.specs.Digits.{digitsOf, bytesOf}
 use Rattle.frame.specs.Numbers.{bytesIn, numberOf, twosIn, signedIn, byteSum}
-use Rattle.frame.specs.Frame.{lineRefusal, inForm, entryOf, readRefusal, readingOf, bodyOf, summed, lineOf, writeRefusal, written}
+use Rattle.frame.specs.Frame.{lineDigits, lineRefusal, inForm, entryOf, readRefusal, readingOf, bodyOf, withSum, lineOf, writeRefusal, written}
 use Rattle.frame.specs.declared.Entry.{Entry}
 use Rattle.frame.specs.declared.Reading.the-variants.{Frame, Refused}
 use Rattle.frame.proofs.Numbers.{Bytes, bytes-take, bytes-drop, byte-at, bytes-are, length-bytes, number-bytes, bytes-number, number-below, signed-twos, twos-signed, twos-below, signed-below}
@@ -46,8 +45,8 @@ entry-of-three k d h s m z l e = rw (take-at m (s ∷ []) 8 l, e)
 amount-back : (z : ℤ) → SFits w64 z → signedIn 8 (numberOf (bytesIn 8 (twosIn 8 z))) ≡ z
 amount-back z f = ap (signedIn 8) (number-bytes 8 (twosIn 8 z) (twos-below 8 z (omega (arith, f .sfits)))) ∙ signed-twos 7 z (f .sfits)
 
-entry-back : (entry : Entry) → Held entry → entryOf (summed (bodyOf entry)) ≡ entry
-unfolding summed bodyOf
+entry-back : (entry : Entry) → Held entry → entryOf (withSum (bodyOf entry)) ≡ entry
+unfolding withSum bodyOf
 entry-back entry h =
     entry-of-three (entry .kind) (entry .day) (entry .hour) (byteSum (bodyOf entry) % 256) (bytesIn 8 (twosIn 8 (entry .amount .0))) (entry .amount .0)
     (length-bytes 8 (twosIn 8 (entry .amount .0))) (amount-back (entry .amount .0) (h .amount))
@@ -58,8 +57,8 @@ read-written entry h f =
     let body = bodyOf entry in
     let l = length-body entry in
     let b = body-bytes entry h in
-    let e : entryOf (bytesOf (digitsOf (summed body))) ≡ entry = ap entryOf (made-bytes body l b) ∙ entry-back entry h in
-    sym (reading-entry (digitsOf (summed body)) (opens (digitsOf (summed body)) (made-sound body l b)) (ap inForm e ∙ f)) ∙ ap Frame e
+    let e : entryOf (bytesOf (digitsOf (withSum body))) ≡ entry = ap entryOf (made-bytes body l b) ∙ entry-back entry h in
+    sym (reading-entry (digitsOf (withSum body)) (opens (digitsOf (withSum body)) (made-sound body l b)) (ap inForm e ∙ f)) ∙ ap Frame e
 
 -- the same of a lent run that the writer filled
 pub read-filled : (entry : Entry) (run : List ℕ) → Held entry → writeRefusal entry (length run) ≡ 0 → readingOf (written entry run) ≡ Frame entry
@@ -87,8 +86,8 @@ unfolding readingOf readRefusal
 passed line entry e =
     let x = entryOf (bytesOf line) in
     let f = frame-is (eqb (readRefusal line) 0) (readRefusal line) x entry e in
-    let b = both-passed (lineRefusal line) (unless (inForm x) badKind 0) (eqb-true (readRefusal line) 0 (f .0)) in
-    let g = choice.passed (inForm x) 12 0 (b .1) in
+    let b = both-passed (lineRefusal line) _ (eqb-true (readRefusal line) 0 (f .0)) in
+    let g = all-passed ((inForm x, badKind) ∷ []) refl (b .1) in
     record { sound = sound line (b .0); form = ap inForm (sym (f .1)) ∙ g .0; held = f .1 }
 
 -- and a line that does not has its refusal
@@ -140,12 +139,12 @@ module _ (line : List ℕ) (entry : Entry) (reads : readingOf line ≡ Frame ent
   unfolding lineOf
   written-read =
       let p = passed line entry reads in
-      ap (λ (x : Entry). digitsOf (summed (bodyOf x))) (sym (p .held))
-      ∙ ap (λ (b : List ℕ). digitsOf (summed b)) (body-again (bytesOf line) (twelve line (p .sound)) (line-bytes line (p .sound)))
+      ap (λ (x : Entry). digitsOf (withSum (bodyOf x))) (sym (p .held))
+      ∙ ap (λ (b : List ℕ). digitsOf (withSum b)) (body-again (bytesOf line) (twelve line (p .sound)) (line-bytes line (p .sound)))
       ∙ line-back line (p .sound)
 
   -- the same of a lent run of 24 bytes
-  pub filled-read : (run : List ℕ) → length run ≡ 24 → (writeRefusal entry (length run) ≡ 0) × (written entry run ≡ line)
+  pub filled-read : (run : List ℕ) → length run ≡ lineDigits → (writeRefusal entry (length run) ≡ 0) × (written entry run ≡ line)
   filled-read run l =
       let z = takes entry run l (passed line entry reads .form) in
       (z, sym (write-right entry run z) ∙ written-read)

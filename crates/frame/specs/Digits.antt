@@ -7,30 +7,30 @@ use Rattle.whole.specs.Choice.{pick}
 use Rattle.whole.specs.Runs.{listed}
 
 -- the digit of a value below 16: 0-9 stand from 48 on, A-F from 65, which is 55 and ten
-unfoldable pub digitOf : ℕ → ℕ
-digitOf v = pick (ltb v 10) (48 + v) (55 + v)
+unfoldable pub hexDigitOf : ℕ → ℕ
+hexDigitOf v = pick (ltb v 10) (48 + v) (55 + v)
 
 -- the digits of 0 to 15
 unfoldable pub sixteen : List ℕ
-sixteen = listed digitOf 0 16
+sixteen = listed hexDigitOf 0 16
 
 -- the digits that are allowed, and their values
-unfoldable pub isDigit : ℕ → Bool
-isDigit d = leb 48 d && ltb d 58 || leb 65 d && ltb d 71
+unfoldable pub isHexDigit : ℕ → Bool
+isHexDigit d = leb 48 d && ltb d 58 || leb 65 d && ltb d 71
 
-unfoldable pub valueOf : ℕ → ℕ
-valueOf d = pick (ltb d 65) (d - 48) (d - 55)
+unfoldable pub hexValueOf : ℕ → ℕ
+hexValueOf d = pick (ltb d 65) (d - 48) (d - 55)
 
 abbrev pub allDigits : List ℕ → Bool
 allDigits [] = true
-allDigits (d ∷ ds) = isDigit d && allDigits ds
+allDigits (d ∷ ds) = isHexDigit d && allDigits ds
 
 -- the digits of bytes, and the bytes of digits
 abbrev pub digitsOf : List ℕ → List ℕ
 digitsOf [] = []
-digitsOf (b ∷ bs) = digitOf (b / 16) ∷ digitOf (b % 16) ∷ digitsOf bs
+digitsOf (b ∷ bs) = hexDigitOf (b / 16) ∷ hexDigitOf (b % 16) ∷ digitsOf bs
 
 abbrev pub bytesOf : List ℕ → List ℕ
 bytesOf [] = []
 bytesOf (h ∷ []) = []
-bytesOf (h ∷ l ∷ ds) = (valueOf h * 16 + valueOf l) ∷ bytesOf ds
+bytesOf (h ∷ l ∷ ds) = (hexValueOf h * 16 + hexValueOf l) ∷ bytesOf ds

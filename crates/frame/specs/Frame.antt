@@ -5,11 +5,12 @@ use mathlib.Core.List.{List, [], _∷_, _++_}
 use lib.Dec.{eqb}
 use lib.IntN.{ℤ, pos, negsuc}
 use lib.ListN.{length, getD, take, drop}
-use Rattle.whole.specs.Choice.{pick, unless, orElse, kept}
+use Rattle.whole.specs.Choice.{pick, orElse, inOrder, kept}
 use Rattle.units.specs.Refusals.{wrongLength, badDigit, badSum, badKind}
+use Rattle.units.specs.Units.{dollars}
 use Rattle.frame.specs.Digits.{allDigits, digitsOf, bytesOf}
 use Rattle.frame.specs.Numbers.{bytesIn, numberOf, twosIn, signedIn, byteSum}
-use Rattle.frame.specs.Kinds.{known, usesDay, usesHour, usesAmount}
+use Rattle.frame.specs.Kinds.{isKind, usesDay, usesHour, usesAmount}
 use Rattle.frame.specs.declared.Entry.{Entry}
 use Rattle.frame.specs.declared.Opened.{Opened}
 use Rattle.frame.specs.declared.Reading.{Reading}
@@ -17,12 +18,15 @@ use Rattle.frame.specs.declared.Reading.the-variants.{Frame, Refused}
 
 -- ---- any line: its twelve bytes, the last of them the sum of the others
 
+abbrev pub lineDigits : ℕ
+lineDigits = 24
+
 unfoldable pub checked : List ℕ → Bool
 checked bytes = eqb (byteSum (take 11 bytes) % 256) (getD bytes 11 0)
 
 -- refused with 1, 11, 12, in this order
 unfoldable pub lineRefusal : List ℕ → ℕ
-lineRefusal line = unless (eqb (length line) 24) wrongLength (unless (allDigits line) badDigit (unless (checked (bytesOf line)) badSum 0))
+lineRefusal line = inOrder ((eqb (length line) lineDigits, wrongLength) ∷ (allDigits line, badDigit) ∷ (checked (bytesOf line), badSum) ∷ [])
 
 abbrev pub zeros : List ℕ
 zeros = 0 ∷ 0 ∷ 0 ∷ 0 ∷ 0 ∷ 0 ∷ 0 ∷ 0 ∷ 0 ∷ 0 ∷ 0 ∷ 0 ∷ []
@@ -38,7 +42,7 @@ isZero (negsuc n) = false
 
 unfoldable pub inForm : Entry → Bool
 inForm entry =
-    known (entry .kind)
+    isKind (entry .kind)
     && (usesDay (entry .kind) || eqb (entry .day) 0)
     && (usesHour (entry .kind) || eqb (entry .hour) 0)
     && (usesAmount (entry .kind) || isZero (entry .amount .0))
@@ -51,35 +55,35 @@ entryOf bytes =
       kind = getD bytes 0 0;
       day = getD bytes 1 0;
       hour = getD bytes 2 0;
-      amount = record { 0 = signedIn 8 (numberOf (take 8 (drop 3 bytes))) };
+      amount = dollars (signedIn 8 (numberOf (take 8 (drop 3 bytes))));
     }
 
 -- refused with the line's number, then with 13
 unfoldable pub readRefusal : List ℕ → ℕ
-readRefusal line = orElse (lineRefusal line) (unless (inForm (entryOf (bytesOf line))) badKind 0)
+readRefusal line = orElse (lineRefusal line) (inOrder ((inForm (entryOf (bytesOf line)), badKind) ∷ []))
 
 -- the reader's answer by the paper's number: 0 is a frame with its entry, any other is that refusal
-abbrev pub answered : ℕ → Entry → Reading
-answered k entry = pick (eqb k 0) (Frame entry) (Refused k)
+abbrev pub readingBy : ℕ → Entry → Reading
+readingBy k entry = pick (eqb k 0) (Frame entry) (Refused k)
 
 unfoldable pub readingOf : List ℕ → Reading
-readingOf line = answered (readRefusal line) (entryOf (bytesOf line))
+readingOf line = readingBy (readRefusal line) (entryOf (bytesOf line))
 
 -- ---- the writer
 
 unfoldable pub bodyOf : Entry → List ℕ
 bodyOf entry = entry .kind ∷ entry .day ∷ entry .hour ∷ bytesIn 8 (twosIn 8 (entry .amount .0))
 
-unfoldable pub summed : List ℕ → List ℕ
-summed body = body ++ (byteSum body % 256 ∷ [])
+unfoldable pub withSum : List ℕ → List ℕ
+withSum body = body ++ (byteSum body % 256 ∷ [])
 
 -- the line of an entry
 unfoldable pub lineOf : Entry → List ℕ
-lineOf entry = digitsOf (summed (bodyOf entry))
+lineOf entry = digitsOf (withSum (bodyOf entry))
 
 -- refused with 1 for a lent run of another length, then with 13
 unfoldable pub writeRefusal : Entry → ℕ → ℕ
-writeRefusal entry n = unless (eqb n 24) wrongLength (unless (inForm entry) badKind 0)
+writeRefusal entry n = inOrder ((eqb n lineDigits, wrongLength) ∷ (inForm entry, badKind) ∷ [])
 
 -- what is left in the lent run
 unfoldable pub written : Entry → List ℕ → List ℕ

@@ -22,8 +22,8 @@ lossFeeKind = 4
 abbrev pub closeKind : ℕ
 closeKind = 5
 
-abbrev pub known : ℕ → Bool
-known k = leb k closeKind
+abbrev pub isKind : ℕ → Bool
+isKind k = leb k closeKind
 
 abbrev pub usesDay : ℕ → Bool
 usesDay k = eqb k openKind || eqb k postKind || eqb k replaceKind || eqb k withdrawKind

@@ -3,7 +3,7 @@ ghost use Prim.Native.Nat.{_+_, _*_, _<_};
 ghost use mathlib.Core.Path.{_≡_};
 ghost use mathlib.Core.Bool.{true};
 ghost use lib.ListN.{length};
-ghost use Rattle.frame.specs.Digits.{digitOf, sixteen, valueOf, isDigit, allDigits, digitsOf, bytesOf};
+ghost use Rattle.frame.specs.Digits.{hexDigitOf, sixteen, hexValueOf, isHexDigit, allDigits, digitsOf, bytesOf};
 
 const DIGITS: [u8; 16] = [
     b'0',
@@ -28,31 +28,31 @@ const DIGITS: [u8; 16] = [
 fn digit(digits: &[u8; 16], value: u8) -> u8
     requires { ⌜ value < 16 ⌝ }
     requires { ⌜ now digits ≡ sixteen ⌝ }
-    ensures { λ r. ⌜ r ≡ digitOf value ⌝ }
+    ensures { λ r. ⌜ r ≡ hexDigitOf value ⌝ }
 {
     digits[value as usize]
 }
 
 // Whether a byte of a line is a digit that is allowed.
 fn is_digit(d: u8) -> bool
-    ensures { λ r. ⌜ r ≡ isDigit d ⌝ }
+    ensures { λ r. ⌜ r ≡ isHexDigit d ⌝ }
 {
     (48 <= d) & (d < 58) | (65 <= d) & (d < 71)
 }
 
 // The value of a digit.
 fn value(d: u8) -> u8
-    requires { ⌜ isDigit d ≡ true ⌝ }
-    ensures { λ r. ⌜ r ≡ valueOf d ⌝ }
+    requires { ⌜ isHexDigit d ≡ true ⌝ }
+    ensures { λ r. ⌜ r ≡ hexValueOf d ⌝ }
 {
     if d < 65 { d - 48 } else { d - 55 }
 }
 
 // The byte of two digits.
 fn byte(high: u8, low: u8) -> u8
-    requires { ⌜ isDigit high ≡ true ⌝ }
-    requires { ⌜ isDigit low ≡ true ⌝ }
-    ensures { λ r. ⌜ r ≡ valueOf high * 16 + valueOf low ⌝ }
+    requires { ⌜ isHexDigit high ≡ true ⌝ }
+    requires { ⌜ isHexDigit low ≡ true ⌝ }
+    ensures { λ r. ⌜ r ≡ hexValueOf high * 16 + hexValueOf low ⌝ }
 {
     value(high) * 16 + value(low)
 }

@@ -2,9 +2,12 @@
 ghost use mathlib.Core.Path.{_≡_};
 ghost use lib.ListN.{length};
 ghost use Rattle.frame.specs.Kinds.{usesDay, usesHour, usesAmount};
-ghost use Rattle.frame.specs.Frame.{checked, zeros, openedOf, isZero, inForm, entryOf, readingOf, bodyOf, summed, lineOf, writeRefusal, written};
+ghost use Rattle.frame.specs.Frame.{lineDigits, checked, zeros, openedOf, isZero, inForm, entryOf, readingOf, bodyOf, withSum, lineOf, writeRefusal, written};
 use units::Dollars;
 use units::refusals;
+
+// The digits of a line.
+const LINE: usize = 24;
 
 mod digit;
 pub mod kinds;
@@ -51,7 +54,7 @@ fn turned_away(refusal: u8) -> Opened
 pub fn open_line(line: &[u8]) -> Opened
     ensures { λ r. ⌜ r ≡ openedOf (now (line .entry)) ⌝ }
 {
-    if line.len() != 24 {
+    if line.len() != LINE {
         return turned_away(refusals::WRONG_LENGTH);
     }
     let mut bytes = [0u8; 12];
@@ -152,7 +155,7 @@ fn put_body(entry: Entry, body: &mut [u8])
 // All twelve.
 fn put_bytes(entry: Entry, bytes: &mut [u8])
     requires { ⌜ length (now bytes) ≡ 12 ⌝ }
-    ensures { λ _. ⌜ now (bytes .exit) ≡ summed (bodyOf entry) ⌝ }
+    ensures { λ _. ⌜ now (bytes .exit) ≡ withSum (bodyOf entry) ⌝ }
 {
     put_body(entry, &mut bytes[..11]);
     bytes[11] = number::sum(&bytes[..11]);
@@ -160,7 +163,7 @@ fn put_bytes(entry: Entry, bytes: &mut [u8])
 
 // The line of an entry.
 fn put_line(entry: Entry, line: &mut [u8])
-    requires { ⌜ length (now line) ≡ 24 ⌝ }
+    requires { ⌜ length (now line) ≡ lineDigits ⌝ }
     ensures { λ _. ⌜ now (line .exit) ≡ lineOf entry ⌝ }
 {
     let mut bytes = [0u8; 12];
@@ -172,7 +175,7 @@ fn put_line(entry: Entry, line: &mut [u8])
 pub fn write_frame(entry: Entry, line: &mut [u8]) -> u8
     ensures { λ r. ⌜ (r ≡ writeRefusal entry (length (now (line .entry)))) × (now (line .exit) ≡ written entry (now (line .entry))) ⌝ }
 {
-    if line.len() != 24 {
+    if line.len() != LINE {
         return refusals::WRONG_LENGTH;
     }
     if !in_form(entry) {

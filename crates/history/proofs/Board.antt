@@ -15,8 +15,8 @@ use Rattle.whole.specs.Choice.{pick, kept}
 use Rattle.whole.specs.Folds.{foldTo}
 use Rattle.whole.proofs.Choice.{both, and-both, clash, by-test, passed}
 use Rattle.whole.proofs.Folds.{all-at, all-of, fold-same, fold-tail}
-use Rattle.history.specs.Rules.{Call, Rules, Sound, hoursTo, isAmong, inside, placeIn, placesOf}
-use Rattle.history.specs.Board.{Board, markAt, itemAt, fitsAt, feesFit, wellFormed, fresh, placed, rulingOn, nextOn, handed, runsFit, ledgerRefusal, lentRefusal, ruledIn, handedIn}
+use Rattle.history.specs.Rules.{Call, Deed, Rules, Sound, hoursTo, isAmong, inside, placeIn, placesOf}
+use Rattle.history.specs.Board.{Board, markAt, itemAt, fitsAt, feesFit, wellFormed, fresh, placed, rulingOn, nextOn, handed, runsFit, ledgerRefusal, lentRefusal, ruledAt, handedAt, ruledIn, handedIn}
 use Rattle.history.specs.History.{readAs}
 use Rattle.history.proofs.Days.{place-below, place-same, fold-hours}
 
@@ -73,12 +73,12 @@ pub record Good {F M B : Type 0} (R : Rules F M B) (b : Board F M B) : Type 0 wh
   pub fee-fits : (f : F) → R .checkFee f (b .fee f) ≡ 0
   pub each : (p : ℕ) → p < R .places → fitsAt R b p ≡ true
   pub marks-long : length (b .marks) ≡ R .places
-  pub items-long : length (b .items) ≡ R .places
+  pub amounts-long : length (b .amounts) ≡ R .places
 
 -- what a state's type holds: a mark and an item for each place
 pub record Held {F M B : Type 0} (R : Rules F M B) (b : Board F M B) : Type 0 where
   pub marks : length (b .marks) ≡ R .places
-  pub items : length (b .items) ≡ R .places
+  pub amounts : length (b .amounts) ≡ R .places
 
 -- a month that is in form is one that opens
 pub well-opens : {F M B : Type 0} (R : Rules F M B) (b : Board F M B) → wellFormed R b ≡ true → R .opens ≡ true
@@ -110,13 +110,31 @@ empty-if : {A : Type 0} (m t ok blank : Bool) (a : A) → t ≡ false → pick m
 empty-if false t ok blank a e h = refl
 empty-if true t ok blank a e h = clash (ap (λ u. u && ok) (sym e) ∙ h)
 
+-- a call in place, by its day and hour, is that at the place that they have
+module _ {F M B : Type 0} (R : Rules F M B) (b : Board F M B) (d x : ℕ) where
+  -- what a call at that place answers and leaves
+  abbrev pub CameAt : Call F (M × B) → Deed (M × B) → Type 0
+  CameAt c deed = (ruledAt R b (inside R d x) (placeIn R d x) deed ≡ ruledIn R b c) × (handedAt R b (inside R d x) (placeIn R d x) deed ≡ handedIn R b c)
+
+  pub post-at : (a : M × B) → CameAt (Call.post d x a) (Deed.posts a)
+  unfolding rulingOn nextOn ruledAt handedAt ruledIn handedIn
+  post-at a = (refl, refl)
+
+  pub replace-at : (a : M × B) → CameAt (Call.replace d x a) (Deed.replaces a)
+  unfolding rulingOn nextOn ruledAt handedAt ruledIn handedIn
+  replace-at a = (refl, refl)
+
+  pub withdraw-at : CameAt (Call.withdraw d x) Deed.withdraws
+  unfolding rulingOn nextOn ruledAt handedAt ruledIn handedIn
+  withdraw-at = (refl, refl)
+
 -- on runs that are the ledger's, the test in place is that of 22
 pub ledger-test : {F M B : Type 0} (R : Rules F M B) (b : Board F M B) → runsFit R b ≡ true → eqb (ledgerRefusal R b) 0 ≡ wellFormed R b
 unfolding ledgerRefusal
 ledger-test R b runs = by-test (wellFormed R b) (λ (w : wellFormed R b ≡ true). rw (runs, w)) (λ (w : wellFormed R b ≡ false). rw (runs, w))
 
 module _ {F M B : Type 0} (R : Rules F M B) (sound : Sound R) where
-  pub well-good : (b : Board F M B) → wellFormed R b ≡ true → length (b .marks) ≡ R .places → length (b .items) ≡ R .places → Good R b
+  pub well-good : (b : Board F M B) → wellFormed R b ≡ true → length (b .marks) ≡ R .places → length (b .amounts) ≡ R .places → Good R b
   unfolding wellFormed
   well-good b w lm lx =
       let h = and-both (feesFit R b) _ w in
@@ -125,11 +143,11 @@ module _ {F M B : Type 0} (R : Rules F M B) (sound : Sound R) where
         fee-fits = λ f. eqb-true _ 0 (fee f (sound .every-fee f));
         each = all-at (R .places) (fitsAt R b) (h .1);
         marks-long = lm;
-        items-long = lx;
+        amounts-long = lx;
       }
 
   pub well-held : (b : Board F M B) → wellFormed R b ≡ true → Held R b → Good R b
-  well-held b w held = well-good b w (held .marks) (held .items)
+  well-held b w held = well-good b w (held .marks) (held .amounts)
 
   pub good-well : (b : Board F M B) → Good R b → wellFormed R b ≡ true
   unfolding wellFormed
@@ -141,7 +159,7 @@ module _ {F M B : Type 0} (R : Rules F M B) (sound : Sound R) where
   good-fees b g = and-both (feesFit R b) _ (good-well b g) .0
 
   pub good-runs : (b : Board F M B) → Good R b → runsFit R b ≡ true
-  good-runs b g = both (eq-eqb _ _ (g .marks-long)) (eq-eqb _ _ (g .items-long))
+  good-runs b g = both (eq-eqb _ _ (g .marks-long)) (eq-eqb _ _ (g .amounts-long))
 
   pub good-lent : (b : Board F M B) → Good R b → (rest : ℕ) → lentRefusal R b rest ≡ rest
   good-lent b g rest = rw (good-runs b g, good-fees b g)
@@ -164,7 +182,7 @@ module _ {F M B : Type 0} (R : Rules F M B) (sound : Sound R) where
   ledger-good b e =
       let a = passed (runsFit R b) 0 _ e in
       let w = passed (wellFormed R b) 21 0 (a .1) in
-      let l = and-both (eqb (length (b .marks)) (R .places)) (eqb (length (b .items)) (R .places)) (a .0) in
+      let l = and-both (eqb (length (b .marks)) (R .places)) (eqb (length (b .amounts)) (R .places)) (a .0) in
       well-good b (w .0) (eqb-true _ _ (l .0)) (eqb-true _ _ (l .1))
 
   fresh-item : (p : ℕ) → itemAt R (fresh R) p ≡ R .blank
@@ -183,7 +201,7 @@ module _ {F M B : Type 0} (R : Rules F M B) (sound : Sound R) where
         each = λ p h.
             ap (λ a. pick (R .filled (a .0)) (ltb p (placesOf R) && R .fits a) (R .isBlank a)) (fresh-item p) ∙ of-blank _ _ ∙ sound .is-blank;
         marks-long = length-replicate (R .places) (R .blank .0);
-        items-long = length-replicate (R .places) (R .blank .1);
+        amounts-long = length-replicate (R .places) (R .blank .1);
       }
 
   pub fresh-stands : (d x : ℕ) → standsOn R (fresh R) d x ≡ none
@@ -203,11 +221,11 @@ module _ {F M B : Type 0} (R : Rules F M B) (sound : Sound R) where
         record {
           fee-fits = g .fee-fits;
           each = λ p h.
-              read-set (R .blank) (λ p a. pick (R .filled (a .0)) (ltb p (placesOf R) && R .fits a) (R .isBlank a)) (b .marks) (b .items) q a p
-              (omega (arith, sound .room, g .marks-long)) (omega (arith, sound .room, g .items-long))
+              read-set (R .blank) (λ p a. pick (R .filled (a .0)) (ltb p (placesOf R) && R .fits a) (R .isBlank a)) (b .marks) (b .amounts) q a p
+              (omega (arith, sound .room, g .marks-long)) (omega (arith, sound .room, g .amounts-long))
               ∙ either-way (eqb p q) _ _ (fits-set (R .filled (a .0)) (ltb q (placesOf R)) (R .fits a) (R .isBlank a) (lt-ltb q (placesOf R) l) ok) (g .each p h);
           marks-long = length-set (b .marks) q (a .0) ∙ g .marks-long;
-          items-long = length-set (b .items) q (a .1) ∙ g .items-long;
+          amounts-long = length-set (b .amounts) q (a .1) ∙ g .amounts-long;
         }
 
     pub set-stands : (d x : ℕ) (a : M × B) → inside R d x ≡ true → (e y : ℕ)
@@ -231,8 +249,8 @@ module _ {F M B : Type 0} (R : Rules F M B) (sound : Sound R) where
         go true j =
             let u = hour-of R d x i in
             let v = hour-of R e y j in
-            read-set (R .blank) (λ _ z. pick (R .filled (z .0)) (some z) none) (b .marks) (b .items) (placeIn R d x) a (placeIn R e y)
-            (omega (arith, l, sound .room, g .marks-long)) (omega (arith, l, sound .room, g .items-long))
+            read-set (R .blank) (λ _ z. pick (R .filled (z .0)) (some z) none) (b .marks) (b .amounts) (placeIn R d x) a (placeIn R e y)
+            (omega (arith, l, sound .room, g .marks-long)) (omega (arith, l, sound .room, g .amounts-long))
             ∙ ap (λ t. pick t new (placeOn R b (placeIn R e y))) (place-same (R .hoursOf) d x e y (u .one) (v .one) (u .short) (v .short))
         go false j = out (eqb d e && eqb x y) refl j
 

@@ -1,13 +1,13 @@
 -- Days laid out one after the other, whatever each day's number of hours H: hours of the month have places below the number of places,
 -- different hours have different places, each place is some hour's, and a fold over the places is the fold over the days of the folds over
 -- their hours. By induction on the days. Assumes nothing.
-use Prim.Native.Nat.{ℕ, zero, suc, _+_, _*_, _-_, _≤_, _<_, zero-le}
+use Prim.Native.Nat.{ℕ, zero, suc, _+_, _*_, _-_, _≤_, _<_}
 use mathlib.Core.Path.{_≡_, refl, sym, ap, ap₂, _∙_, subst, subst⁻¹}
 use mathlib.Core.Bool.{Bool, true, false, _&&_}
 use native.Mathlib.Nat.{not-suc-le-zero, le-refl, add-zero, add-suc, suc-mul, zero-mul}
 use native.Mathlib.Omega.{arith}
-use lib.Dec.{eqb, ltb, leb}
-use borrow.Author.Tests.{leb-true, leb-false, ltb-true, ltb-false, eqb-true, eqb-false, eq-eqb, ne-eqb}
+use lib.Dec.{eqb, ltb}
+use borrow.Author.Tests.{ltb-true, ltb-false, eqb-true, eqb-false, eq-eqb, ne-eqb}
 use Rattle.whole.specs.Folds.{foldTo}
 use Rattle.history.specs.Rules.{hoursTo}
 use Rattle.whole.proofs.Folds.{fold-split}

@@ -1,7 +1,7 @@
 -- Demand 3 holds of any ledger whose contracts are lawful: they say of a state what the board's definitions say. By induction on the run: the board
 -- goes on telling what the history tells. Assumes nothing.
 use Prim.Native.Nat.{ℕ, suc, _+_}
-use mathlib.Core.Path.{_≡_, refl, sym, ap, ap₂, _∙_, subst, subst⁻¹}
+use mathlib.Core.Path.{_≡_, refl, ap, _∙_, subst, subst⁻¹}
 use mathlib.Core.Bool.{true}
 use mathlib.Core.List.{List, [], _∷_, foldl}
 use lib.IntN.{ℤ, pos, _-ℤ_}
@@ -10,12 +10,12 @@ use Rattle.whole.proofs.Folds.{fold-empty}
 use Rattle.whole.proofs.Sums.{sum-none}
 use Rattle.units.specs.Refusals.{notReachable}
 use Rattle.history.specs.Rules.{Call, Rules, Sound}
-use Rattle.history.specs.Board.{Board, fresh, wellFormed, rulingOn, handed, hourOn, dayOn, partOn, totalOn, hoursOn, refusalOf, nextOf, orReachable}
-use Rattle.history.specs.History.{Entry, Ruled, rulingAfter, standing, lastFee, monthSum}
-use Rattle.history.specs.Demand.{Ledger, Run, opened, called, Demand3, Opened}
+use Rattle.history.specs.Board.{Board, fresh, wellFormed, rulingOn, handed, hourOn, dayOn, partOn, totalOn, standingOn, refusalOf, nextOf, orReachable}
+use Rattle.history.specs.History.{Recorded, Ruled, lastItem, lastFee, monthSum}
+use Rattle.history.specs.Demand.{Ledger, Run, opened, called, Demand3, OpensEmpty}
 use Rattle.history.proofs.Board.{good-well}
-use Rattle.history.proofs.Steps.{Told, entry, ruled, start-told, next-told}
-use Rattle.history.proofs.Readouts.{hour-is, day-is, part-is, total-is, parts-are, hours-is}
+use Rattle.history.proofs.Steps.{Told, recorded, ruled, start-told, next-told}
+use Rattle.history.proofs.Readouts.{hour-is, day-is, part-is, total-is, parts-are, standing-is}
 
 -- a state's plan and board, and that the contracts say what the definitions on the board say, 22 included
 pub record Lawful {P F M B S : Type 0} (L : Ledger P F M B S) : Type 1 where
@@ -30,21 +30,21 @@ pub record Lawful {P F M B S : Type 0} (L : Ledger P F M B S) : Type 1 where
   pub day : (s : S) (d : ℕ) (r : ℕ × ℤ) → L .Day s d r → let R = L .rules (plan s) in r ≡ orReachable R (pos 0) (board s) (dayOn R (board s) d)
   pub part : (s : S) (q : ℕ) (r : ℕ × ℤ) → L .Part s q r → let R = L .rules (plan s) in r ≡ orReachable R (pos 0) (board s) (partOn R (board s) q)
   pub total : (s : S) (r : ℕ × ℤ) → L .Total s r → let R = L .rules (plan s) in r ≡ orReachable R (pos 0) (board s) (0, totalOn R (board s))
-  pub hours : (s : S) (r : ℕ × ℕ) → L .Hours s r → let R = L .rules (plan s) in r ≡ orReachable R 0 (board s) (0, hoursOn R (board s))
+  pub standing : (s : S) (r : ℕ × ℕ) → L .Standing s r → let R = L .rules (plan s) in r ≡ orReachable R 0 (board s) (0, standingOn R (board s))
 
 module _ {P F M B S : Type 0} (L : Ledger P F M B S) (laws : Lawful L) where
   abbrev pub rulesAt : S → Rules F M B
   rulesAt s = L .rules (laws .plan s)
 
   -- what a run by the plan p has come to
-  pub record Come (p : P) (h : List (Entry F (M × B))) (s : S) : Type 0 where
+  pub record Come (p : P) (h : List (Recorded F (M × B))) (s : S) : Type 0 where
     pub sound : Sound (L .rules p)
     pub plan : laws .plan s ≡ p
     pub told : Told (L .rules p) h (laws .board s)
     pub ruled : Ruled (L .rules p) h
 
   -- its board is in form
-  pub well : (p : P) (h : List (Entry F (M × B))) (s : S) → Come p h s → wellFormed (rulesAt s) (laws .board s) ≡ true
+  pub well : (p : P) (h : List (Recorded F (M × B))) (s : S) → Come p h s → wellFormed (rulesAt s) (laws .board s) ≡ true
   well p h s c = subst⁻¹ (λ q. wellFormed (L .rules q) (laws .board s) ≡ true) (c .plan) (good-well (L .rules p) (c .sound) (laws .board s) (c .told .good))
 
   -- so that 22 is left aside
@@ -57,7 +57,7 @@ module _ {P F M B S : Type 0} (L : Ledger P F M B S) (laws : Lawful L) where
       let step = laws .answers s c k t a in
       (step .0 ∙ ap (λ u. unless u notReachable (rulingOn R b c)) w, step .2 ∙ ap (λ u. pick u (handed R b c) b) w)
 
-  pub come : (p : P) (h : List (Entry F (M × B))) (s : S) → Run L p h s → Come p h s
+  pub come : (p : P) (h : List (Recorded F (M × B))) (s : S) → Run L p h s → Come p h s
   come p h s (opened _ o) =
       let e = laws .opens p s o in
       let sound = laws .sound p (e .0) in
@@ -72,12 +72,12 @@ module _ {P F M B S : Type 0} (L : Ledger P F M B S) (laws : Lawful L) where
       record {
         sound = before .sound;
         plan = laws .answers s c k t a .1 ∙ before .plan;
-        told = subst⁻¹ (λ n. Told R (entry c k ∷ g) n) next
-            (subst⁻¹ (λ n. Told R (entry c n ∷ g) (handed R b c)) number (next-told R (before .sound) g b (before .told) c));
+        told = subst⁻¹ (λ n. Told R (recorded c k ∷ g) n) next
+            (subst⁻¹ (λ n. Told R (recorded c n ∷ g) (handed R b c)) number (next-told R (before .sound) g b (before .told) c));
         ruled = (number ∙ ruled R g b (before .told) c, before .ruled);
       }
 
-  pub demand3 : (p : P) (h : List (Entry F (M × B))) (s : S) → Run L p h s → Demand3 L p h s
+  pub demand3 : (p : P) (h : List (Recorded F (M × B))) (s : S) → Run L p h s → Demand3 L p h s
   demand3 p h s run =
       record {
         accepted = c .ruled;
@@ -85,7 +85,7 @@ module _ {P F M B S : Type 0} (L : Ledger P F M B S) (laws : Lawful L) where
         hour = λ d x r a. laws .hour s d x r a ∙ plain (pos 0) (λ R. hourOn R b d x) ∙ hour-is R (c .sound) h b (c .told) d x;
         day = λ d r a. laws .day s d r a ∙ plain (pos 0) (λ R. dayOn R b d) ∙ day-is R (c .sound) h b (c .told) d;
         part = λ q r a. laws .part s q r a ∙ plain (pos 0) (λ R. partOn R b q) ∙ part-is R (c .sound) h b (c .told) q;
-        hours = λ r a. laws .hours s r a ∙ plain 0 (λ R. (0, hoursOn R b)) ∙ ap (λ n. (0, n)) (hours-is R (c .sound) h b (c .told));
+        standing = λ r a. laws .standing s r a ∙ plain 0 (λ R. (0, standingOn R b)) ∙ ap (λ n. (0, n)) (standing-is R (c .sound) h b (c .told));
         parts = parts-are R (c .sound) h b (c .told);
       }
     where
@@ -107,8 +107,8 @@ module _ {P F M B S : Type 0} (L : Ledger P F M B S) (laws : Lawful L) where
   no-fees [] = refl
   no-fees (f ∷ fs) = no-fees fs
 
-  pub opens-empty : (p : P) (s : S) → L .Opens p s → Opened L p s
-  unfolding standing lastFee
+  pub opens-empty : (p : P) (s : S) → L .Opens p s → OpensEmpty L p s
+  unfolding lastItem lastFee
   opens-empty p s o =
       let R = L .rules p in
       let d3 = demand3 p [] s (opened s o) in
@@ -117,5 +117,5 @@ module _ {P F M B S : Type 0} (L : Ledger P F M B S) (laws : Lawful L) where
         hour = λ d x i r a. d3 .hour d x r a ∙ rw i;
         day = λ d i r a. d3 .day d r a ∙ rw i (ap (λ z. (0, z)) (sum-none (R .hoursOf d) _ (λ _ _. refl)));
         total = λ r a. d3 .total r a ∙ ap (λ z. (0, z)) (ap (λ e. foldl (λ z _. z -ℤ pos 0) e (R .fees)) nothing ∙ no-fees (R .fees));
-        hours = λ r a. d3 .hours r a ∙ ap (λ n. (0, n)) (fold-empty 0 _+_ refl (R .days) _ (λ k _. fold-empty 0 _+_ refl (R .hoursOf (suc k)) _ (λ _ _. refl)));
+        standing = λ r a. d3 .standing r a ∙ ap (λ n. (0, n)) (fold-empty 0 _+_ refl (R .days) _ (λ k _. fold-empty 0 _+_ refl (R .hoursOf (suc k)) _ (λ _ _. refl)));
       }

@@ -1,12 +1,11 @@
 -- The ledger that the definitions themselves are: its state is a plan and a board, and its answers are what the board's definitions say. It is lawful,
 -- and its calls can be made, by any rules that are sound where a month opens: so the premises of demand 3 and of refusal 22 can be met.
 -- By unfolding. Assumes nothing.
-use Prim.Native.Nat.{ℕ}
 use mathlib.Core.Path.{_≡_, refl, ap}
 use mathlib.Core.Bool.{true}
 use lib.IntN.{pos}
-use Rattle.history.specs.Rules.{Call, Rules, Sound}
-use Rattle.history.specs.Board.{Board, fresh, hourOn, dayOn, partOn, totalOn, hoursOn, refusalOf, nextOf, orReachable}
+use Rattle.history.specs.Rules.{Rules, Sound}
+use Rattle.history.specs.Board.{Board, fresh, hourOn, dayOn, partOn, totalOn, standingOn, refusalOf, nextOf, orReachable}
 use Rattle.history.specs.Demand.{Ledger}
 use Rattle.history.proofs.Demand.{Lawful}
 use Rattle.history.proofs.Reach.{Able}
@@ -26,7 +25,7 @@ module _ {P F M B : Type 0} (rules : P → Rules F M B) where
         Day = λ s d r. r ≡ orReachable (rules (s .plan)) (pos 0) (s .board) (dayOn (rules (s .plan)) (s .board) d);
         Part = λ s q r. r ≡ orReachable (rules (s .plan)) (pos 0) (s .board) (partOn (rules (s .plan)) (s .board) q);
         Total = λ s r. r ≡ orReachable (rules (s .plan)) (pos 0) (s .board) (0, totalOn (rules (s .plan)) (s .board));
-        Hours = λ s r. r ≡ orReachable (rules (s .plan)) 0 (s .board) (0, hoursOn (rules (s .plan)) (s .board));
+        Standing = λ s r. r ≡ orReachable (rules (s .plan)) 0 (s .board) (0, standingOn (rules (s .plan)) (s .board));
       }
 
   abbrev pub model-laws : ((p : P) → rules p .opens ≡ true → Sound (rules p)) → Lawful model
@@ -41,7 +40,7 @@ module _ {P F M B : Type 0} (rules : P → Rules F M B) where
         day = λ s d r e. e;
         part = λ s q r e. e;
         total = λ s r e. e;
-        hours = λ s r e. e;
+        standing = λ s r e. e;
       }
 
   pub model-able : (sound : (p : P) → rules p .opens ≡ true → Sound (rules p)) → Able model (model-laws sound)

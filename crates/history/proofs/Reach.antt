@@ -9,14 +9,14 @@ use native.Mathlib.Nat.{le-refl, add-zero, add-suc}
 use native.Mathlib.Omega.{arith}
 use lib.Dec.{leb, ltb, eqb}
 use lib.IntN.{ℤ, pos}
-use lib.ListN.{length, getD, set, replicate}
+use lib.ListN.{replicate}
 use borrow.Author.Tests.{ltb-true}
 use Rattle.whole.specs.Choice.{pick, unless, orElse}
 use Rattle.whole.proofs.Choice.{by-test, and-both, clash, kept-any, kept-new}
 use Rattle.units.specs.Refusals.{notReachable, notInMonth, placeFilled, placeEmpty, monthClosed}
-use Rattle.history.specs.Rules.{Call, Rules, Sound, hoursTo, isAmong, inside, placeIn, placesOf, rulingAt}
-use Rattle.history.specs.Board.{Board, markAt, itemAt, filledAt, fresh, placed, wellFormed, rulingOn, nextOn, handed, hourOn, dayOn, partOn, totalOn, hoursOn, refusalOf, nextOf, orReachable, postsOfDay, postsTo}
-use Rattle.history.specs.History.{Entry}
+use Rattle.history.specs.Rules.{Call, Deed, Rules, Sound, hoursTo, isAmong, inside, placeIn, placesOf, deedRuling, rulingAt}
+use Rattle.history.specs.Board.{Board, markAt, itemAt, filledAt, fresh, placed, wellFormed, rulingOn, nextOn, handed, hourOn, dayOn, partOn, refusalOf, orReachable, postsOfDay, postsTo}
+use Rattle.history.specs.History.{Recorded}
 use Rattle.history.specs.Demand.{Ledger, Run, opened, called, Reachable, Just22, Exact22}
 use Rattle.history.proofs.Board.{Good, Held, well-held, well-opens, of-hour, below, fresh-good}
 use Rattle.history.proofs.Steps.{effect}
@@ -31,14 +31,14 @@ module _ {F M B : Type 0} (R : Rules F M B) where
 
   -- an open board
   abbrev pub openWith : (F → ℤ) → List M → List B → Board F M B
-  openWith fee marks items = record { closed = false; fee = fee; marks = marks; items = items }
+  openWith fee marks amounts = record { closed = false; fee = fee; marks = marks; amounts = amounts }
 
   abbrev pub noFee : F → ℤ
   noFee f = pos 0
 
   -- a board's first k places, and nothing else of it
   abbrev part : Board F M B → ℕ → Board F M B
-  part b k = openWith noFee (front k (b .marks) (R .blank .0)) (front k (b .items) (R .blank .1))
+  part b k = openWith noFee (front k (b .marks) (R .blank .0)) (front k (b .amounts) (R .blank .1))
 
   -- the calls that build a board: its standing hours, its fees, and a close if it is closed
   abbrev feesSet : Board F M B → List F → List (Call F (M × B))
@@ -80,14 +80,14 @@ module _ {F M B : Type 0} (R : Rules F M B) where
       start =
           ap₂ (openWith noFee)
           (ap (λ n. replicate n (R .blank .0)) (sym (g .marks-long)) ∙ sym (front-none (b .marks) (R .blank .0)))
-          (ap (λ n. replicate n (R .blank .1)) (sym (g .items-long)) ∙ sym (front-none (b .items) (R .blank .1)))
+          (ap (λ n. replicate n (R .blank .1)) (sym (g .amounts-long)) ∙ sym (front-none (b .amounts) (R .blank .1)))
 
       -- an empty place adds nothing
       skip : (p : ℕ) → p < R .places → markAt R b p ≡ false → part b p ≡ part b (suc p)
       skip p l e =
           let blank : R .isBlank (itemAt R b p) ≡ true = ap (λ m. pick m (ltb p (placesOf R) && R .fits (itemAt R b p)) (R .isBlank (itemAt R b p))) (sym e) ∙ g .each p l in
           let is = sound .blank-is (itemAt R b p) e blank in
-          ap₂ (openWith noFee) (front-kept p (b .marks) (R .blank .0) (λ i. is i .0)) (front-kept p (b .items) (R .blank .1) (λ i. is i .1))
+          ap₂ (openWith noFee) (front-kept p (b .marks) (R .blank .0) (λ i. is i .0)) (front-kept p (b .amounts) (R .blank .1) (λ i. is i .1))
 
       -- one more hour
       more : (d x : ℕ) → inside R d x ≡ true → (cs : List (Call F (M × B))) → boardRun cs ≡ part b (placeIn R d x)
@@ -111,7 +111,7 @@ module _ {F M B : Type 0} (R : Rules F M B) where
               ap (λ n. handed R n (Call.post d x item)) built
               ∙ goes (part b p) (Call.post d x item) (post-goes (part b p) d x item refl i (stays .0) (ap (R .filled) (front-at p (b .marks) (R .blank .0)) ∙ sound .empty))
               ∙ ap (placed R (part b p) p) (stays .1)
-              ∙ ap₂ (openWith noFee) (front-next p (b .marks) (R .blank .0)) (front-next p (b .items) (R .blank .1))
+              ∙ ap₂ (openWith noFee) (front-next p (b .marks) (R .blank .0)) (front-next p (b .amounts) (R .blank .1))
           go false e = built ∙ skip p l e
 
       day-built : (d : ℕ) → 1 ≤ d → d ≤ R .days → (cs : List (Call F (M × B))) → boardRun cs ≡ part b (hoursTo (R .hoursOf) (d - 1)) → (x : ℕ) → x ≤ R .hoursOf d
@@ -142,7 +142,7 @@ module _ {F M B : Type 0} (R : Rules F M B) where
           go false e = refl
 
       -- the standing hours, posted to a fresh month, stand there: with no fee, and open
-      pub replayed : boardRun (postsTo R b (R .days)) ≡ openWith noFee (b .marks) (b .items)
+      pub replayed : boardRun (postsTo R b (R .days)) ≡ openWith noFee (b .marks) (b .amounts)
       replayed =
           let e : placesOf R + (R .places - placesOf R) ≡ R .places = omega (arith, sound .room) in
           days-built (R .days) (le-refl (R .days))
@@ -150,7 +150,7 @@ module _ {F M B : Type 0} (R : Rules F M B) where
           ∙ ap (part b) e
           ∙ ap₂ (openWith noFee)
           (ap (λ n. front n (b .marks) (R .blank .0)) (sym (g .marks-long)) ∙ front-all (b .marks) (R .blank .0))
-          (ap (λ n. front n (b .items) (R .blank .1)) (sym (g .items-long)) ∙ front-all (b .items) (R .blank .1))
+          (ap (λ n. front n (b .amounts) (R .blank .1)) (sym (g .amounts-long)) ∙ front-all (b .amounts) (R .blank .1))
 
       -- so they give the same day and part sums (#111: "read back as a fresh month they give the same day and product sums")
       pub replayed-day : (d : ℕ) → dayOn R (boardRun (postsTo R b (R .days))) d ≡ dayOn R b d
@@ -167,7 +167,7 @@ module _ {F M B : Type 0} (R : Rules F M B) where
       feeSet [] f = pos 0
       feeSet (g ∷ gs) f = pick (R .sameFee g f) (b .fee g) (feeSet gs f)
 
-      fees-built : (fs : List F) → boardRun (feesSet b fs) ≡ openWith (feeSet fs) (b .marks) (b .items)
+      fees-built : (fs : List F) → boardRun (feesSet b fs) ≡ openWith (feeSet fs) (b .marks) (b .amounts)
       unfolding boardRun nextOn
       fees-built [] = replayed
       fees-built (f ∷ fs) =
@@ -181,15 +181,15 @@ module _ {F M B : Type 0} (R : Rules F M B) where
           (λ (s : R .sameFee k f ≡ true). rw s (ap (b .fee) (sound .same-is k f s)))
           (λ (s : R .sameFee k f ≡ false). rw s (fee-set ks f (ap (λ u. u || isAmong (R .sameFee) ks f) (sym s) ∙ n)))
 
-      all-built : boardRun (feesSet b (R .fees)) ≡ openWith (b .fee) (b .marks) (b .items)
-      all-built = fees-built (R .fees) ∙ (λ i. openWith (λ f. fee-set (R .fees) f (sound .every-fee f) i) (b .marks) (b .items))
+      all-built : boardRun (feesSet b (R .fees)) ≡ openWith (b .fee) (b .marks) (b .amounts)
+      all-built = fees-built (R .fees) ∙ (λ i. openWith (λ f. fee-set (R .fees) f (sound .every-fee f) i) (b .marks) (b .amounts))
 
       pub built : boardRun (callsFor b) ≡ b
       unfolding boardRun nextOn callsFor
       built = go (b .closed) refl
         where
           as-closed : Bool → Board F M B
-          as-closed t = record { closed = t; fee = b .fee; marks = b .marks; items = b .items }
+          as-closed t = record { closed = t; fee = b .fee; marks = b .marks; amounts = b .amounts }
 
           go : (t : Bool) → b .closed ≡ t → boardRun (pick t (Call.close ∷ feesSet b (R .fees)) (feesSet b (R .fees))) ≡ b
           go false e = all-built ∙ ap as-closed (sym e)
@@ -210,7 +210,7 @@ module _ {P F M B S : Type 0} (L : Ledger P F M B S) (laws : Lawful L) (able : A
   -- a run of the ledger's answers for each list of calls
   pub record Ran (p : P) (cs : List (Call F (M × B))) : Type 0 where
     pub state : S
-    pub history : List (Entry F (M × B))
+    pub history : List (Recorded F (M × B))
     pub run : Run L p history state
     pub board : laws .board state ≡ boardRun (L .rules p) cs
 
@@ -282,23 +282,24 @@ pub or-else-small : (k rest : ℕ) → k < notReachable → rest < notReachable 
 or-else-small k rest a b = unless-small (eqb k 0) k rest a b
 
 module _ {F M B : Type 0} (R : Rules F M B) (small : Small R) (b : Board F M B) where
-  at-small : (d x rest : ℕ) → rest < notReachable → rulingAt R (b .closed) d x rest < notReachable
-  at-small d x rest l =
-      unless-small (not (b .closed)) monthClosed (unless (inside R d x) notInMonth rest) (omega arith) (unless-small (inside R d x) notInMonth rest (omega arith) l)
-
   empty-small : (t : Bool) → unless t placeEmpty 0 < notReachable
   empty-small t = unless-small t placeEmpty 0 (omega arith) (omega arith)
 
+  deed-small : (filled : Bool) (deed : Deed (M × B)) → deedRuling R filled deed < notReachable
+  deed-small filled (Deed.posts a) = or-else-small (R .check a) (unless (not filled) placeFilled 0) (small .check a) (unless-small (not filled) placeFilled 0 (omega arith) (omega arith))
+  deed-small filled (Deed.replaces a) = or-else-small (R .check a) (unless filled placeEmpty 0) (small .check a) (empty-small filled)
+  deed-small filled Deed.withdraws = empty-small filled
+
+  at-small : (within filled : Bool) (deed : Deed (M × B)) → rulingAt R (b .closed) within filled deed < notReachable
+  at-small within filled deed =
+      unless-small (not (b .closed)) monthClosed (unless within notInMonth (deedRuling R filled deed)) (omega arith)
+      (unless-small within notInMonth (deedRuling R filled deed) (omega arith) (deed-small filled deed))
+
   pub ruling-small : (c : Call F (M × B)) → rulingOn R b c < notReachable
   unfolding rulingOn
-  ruling-small (Call.post d x a) =
-      let free = not (filledAt R b d x) in
-      at-small d x (orElse (R .check a) (unless free placeFilled 0))
-      (or-else-small (R .check a) (unless free placeFilled 0) (small .check a) (unless-small free placeFilled 0 (omega arith) (omega arith)))
-  ruling-small (Call.replace d x a) =
-      at-small d x (orElse (R .check a) (unless (filledAt R b d x) placeEmpty 0))
-      (or-else-small (R .check a) (unless (filledAt R b d x) placeEmpty 0) (small .check a) (empty-small (filledAt R b d x)))
-  ruling-small (Call.withdraw d x) = at-small d x (unless (filledAt R b d x) placeEmpty 0) (empty-small (filledAt R b d x))
+  ruling-small (Call.post d x a) = at-small (inside R d x) (filledAt R b d x) (Deed.posts a)
+  ruling-small (Call.replace d x a) = at-small (inside R d x) (filledAt R b d x) (Deed.replaces a)
+  ruling-small (Call.withdraw d x) = at-small (inside R d x) (filledAt R b d x) Deed.withdraws
   ruling-small (Call.lossFee f z) = unless-small (not (b .closed)) monthClosed (R .checkFee f z) (omega arith) (small .checkFee f z)
   ruling-small Call.close = unless-small (not (b .closed)) monthClosed 0 (omega arith) (omega arith)
 
@@ -325,7 +326,7 @@ exact-22 {P} {F} {M} {B} {S} L laws able smalls s held =
       day = λ d r a. told-22 L laws able s held (pos 0) r _ (laws .day s d r a) (day-small R small b d);
       part = λ q r a. told-22 L laws able s held (pos 0) r _ (laws .part s q r a) (part-small R small b q);
       total = λ r a. told-22 L laws able s held (pos 0) r _ (laws .total s r a) (omega arith);
-      hours = λ r a. told-22 L laws able s held 0 r _ (laws .hours s r a) (omega arith);
+      standing = λ r a. told-22 L laws able s held 0 r _ (laws .standing s r a) (omega arith);
     }
   where
     R : Rules F M B

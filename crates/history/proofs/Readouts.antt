@@ -1,26 +1,26 @@
 -- What the read-outs tell of a board that tells what a history tells. Assumes nothing.
-use Prim.Native.Nat.{ℕ, suc, _+_, _-_, _<_}
+use Prim.Native.Nat.{ℕ, suc, _+_, _-_}
 use mathlib.Core.Path.{_≡_, refl, sym, ap, ap₂, _∙_}
 use mathlib.Core.Bool.{Bool, true, false, _&&_}
 use mathlib.Core.List.{List, foldl}
-use mathlib.Core.Option.{Option, none, some}
+use mathlib.Core.Option.{none, some}
 use native.Mathlib.Nat.{add-zero, add-assoc, lt-of-lt-of-le}
 use lib.Dec.{leb}
 use lib.IntN.{ℤ, pos, _+ℤ_, _-ℤ_, +ℤ-idr, +ℤ-assoc}
 use borrow.Author.Tests.{lt-ltb}
 use Rattle.whole.specs.Choice.{pick, unless}
-use Rattle.whole.specs.Folds.{sumTo, addTo}
+use Rattle.whole.specs.Folds.{sumTo}
 use Rattle.whole.proofs.Choice.{by-test, both, kept-new}
 use Rattle.whole.proofs.Folds.{fold-same}
-use Rattle.units.specs.Refusals.{notInMonth, placeEmpty}
+use Rattle.units.specs.Refusals.{placeEmpty}
 use Rattle.history.specs.Rules.{Rules, Sound, inside, placeIn}
-use Rattle.history.specs.Board.{Board, told, markAt, itemAt, filledAt, hourOn, dayOn, sumOn, partOn, totalOn, hoursOn}
-use Rattle.history.specs.History.{Entry, standing, stands, readAs, lastFee, hourIs, daySum, monthSum, dayIs, partIs, earnedIs, totalIs, hoursIs}
+use Rattle.history.specs.Board.{Board, told, markAt, itemAt, filledAt, hourOn, dayOn, sumOn, partOn, totalOn, standingOn}
+use Rattle.history.specs.History.{Recorded, lastItem, stands, readAs, hourIs, daySum, monthSum, dayIs, partIs, earnedIs, totalIs, standingIs}
 use Rattle.whole.proofs.Sums.{sum-none, sum-swap}
-use Rattle.history.proofs.Board.{placeOn, standsOn, below, over-hours, read-at, held-at}
+use Rattle.history.proofs.Board.{placeOn, below, over-hours, read-at, held-at}
 use Rattle.history.proofs.Steps.{Told, stands-pick}
 
-module _ {F M B : Type 0} (R : Rules F M B) (sound : Sound R) (h : List (Entry F (M × B))) (b : Board F M B) (t : Told R h b) where
+module _ {F M B : Type 0} (R : Rules F M B) (sound : Sound R) (h : List (Recorded F (M × B))) (b : Board F M B) (t : Told R h b) where
   -- a day's hours
   hours-of : (d : ℕ) → leb 1 d && leb d (R .days) ≡ true → sumTo (R .hoursOf d) (λ x. R .worth (itemAt R b (placeIn R d x))) ≡ daySum R (R .worth) h d
   hours-of d i =
@@ -35,7 +35,7 @@ module _ {F M B : Type 0} (R : Rules F M B) (sound : Sound R) (h : List (Entry F
   hour-is d x =
       by-test (inside R d x)
       (λ (i : inside R d x ≡ true).
-      let e : placeOn R b (placeIn R d x) ≡ standing R h d x = (rw i at (t .stands-is d x)) in
+      let e : placeOn R b (placeIn R d x) ≡ lastItem R h d x = (rw i at (t .stands-is d x)) in
       rw i (read (filledAt R b d x) (itemAt R b (placeIn R d x)) ∙ ap (λ o. told (unless (stands o) placeEmpty 0) (readAs (R .worth) o)) e))
       (λ (i : inside R d x ≡ false). rw i)
     where
@@ -74,9 +74,9 @@ module _ {F M B : Type 0} (R : Rules F M B) (sound : Sound R) (h : List (Entry F
       (sum-none (R .parts) (λ k. R .part (suc k) (R .blank)) (λ k _. sound .no-part (suc k)) ∙ sym (sound .no-worth)))
       ∙ sum-is (R .worth) (sound .no-worth)
 
-  pub hours-is : hoursOn R b ≡ hoursIs R h
-  unfolding hoursOn
-  hours-is =
+  pub standing-is : standingOn R b ≡ standingIs R h
+  unfolding standingOn
+  standing-is =
       fold-same 0 _+_ (R .places) _ _ (λ p l. ap (λ m. pick m 1 0) (sym (stands-pick (markAt R b p) (itemAt R b p))))
       ∙ over-hours R sound b (t .good) 0 _+_ add-zero add-assoc (λ o. pick (stands o) 1 0) refl
       ∙ fold-same 0 _+_ (R .days) _ _ (λ k l. fold-same 0 _+_ (R .hoursOf (suc k)) _ _ (λ x m. ap (λ o. pick (stands o) 1 0) (t .stands-is (suc k) x)))

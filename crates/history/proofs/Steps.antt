@@ -1,29 +1,27 @@
 -- A board and a history that tell the same go on telling the same: a call is answered by the one as by the other, and what it hands on is what the
 -- history with that call tells. By cases of the call. Assumes nothing.
 use Prim.Native.Nat.{ℕ}
-use mathlib.Core.Path.{_≡_, refl, sym, ap, ap₂, _∙_}
+use mathlib.Core.Path.{_≡_, refl, sym, ap, _∙_}
 use mathlib.Core.Bool.{Bool, true, false, not, _&&_}
 use mathlib.Core.List.{List, [], _∷_}
-use mathlib.Core.Option.{Option, none, some}
+use mathlib.Core.Option.{none, some}
 use lib.Dec.{eqb}
-use lib.IntN.{ℤ}
-use Rattle.whole.specs.Choice.{pick, unless, orElse, kept}
-use Rattle.whole.proofs.Choice.{by-test, passed, both-passed, kept-any, kept-by}
-use Rattle.units.specs.Refusals.{monthClosed, notInMonth, placeFilled, placeEmpty}
-use Rattle.history.specs.Rules.{Call, Rules, Sound, inside, placeIn, rulingAt, ruling}
-use Rattle.history.specs.Board.{Board, markAt, itemAt, filledAt, fresh, placed, rulingOn, nextOn, handed, ruledIn, handedIn}
-use Rattle.history.specs.History.{Entry, leaves, standing, feeAfter, lastFee, closedAfter, isClosed, stands, rulingAfter}
+use Rattle.whole.specs.Choice.{pick}
+use Rattle.whole.proofs.Choice.{passed, both-passed, kept-any, kept-by}
+use Rattle.history.specs.Rules.{Call, Deed, Rules, Sound, inside, placeIn, deedRuling, rulingAt, ruling}
+use Rattle.history.specs.Board.{Board, itemAt, filledAt, fresh, placed, rulingOn, nextOn, handed, ruledIn, handedIn}
+use Rattle.history.specs.History.{Recorded, leaves, lastItem, feeAfter, lastFee, closedAfter, isClosed, stands, rulingAfter}
 use Rattle.history.proofs.Board.{Good, good-refusal, standsOn, of-blank, fresh-good, fresh-stands, set-good, set-stands}
 
 -- the board tells what the history tells
-pub record Told {F M B : Type 0} (R : Rules F M B) (h : List (Entry F (M × B))) (b : Board F M B) : Type 0 where
+pub record Told {F M B : Type 0} (R : Rules F M B) (h : List (Recorded F (M × B))) (b : Board F M B) : Type 0 where
   pub good : Good R b
-  pub stands-is : (d x : ℕ) → standsOn R b d x ≡ standing R h d x
+  pub stands-is : (d x : ℕ) → standsOn R b d x ≡ lastItem R h d x
   pub fee-is : (f : F) → b .fee f ≡ lastFee R h f
   pub closed-is : b .closed ≡ isClosed h
 
-abbrev pub entry : {F A : Type 0} → Call F A → ℕ → Entry F A
-entry c k = record { call = c; answer = k }
+abbrev pub recorded : {F A : Type 0} → Call F A → ℕ → Recorded F A
+recorded c k = record { call = c; answer = k }
 
 -- what an accepted call does to a board
 pub record Effect {F M B : Type 0} (R : Rules F M B) (b n : Board F M B) (c : Call F (M × B)) : Type 0 where
@@ -38,37 +36,35 @@ stands-pick false x = refl
 
 module _ {F M B : Type 0} (R : Rules F M B) where
   -- the place is asked of an hour of the month alone
-  at-same : (closed : Bool) (d x : ℕ) (T : Bool → ℕ) (u v : Bool) → (inside R d x ≡ true → u ≡ v) → rulingAt R closed d x (T u) ≡ rulingAt R closed d x (T v)
-  at-same closed d x T u v e =
-      by-test (inside R d x)
-      (λ (i : inside R d x ≡ true). ap (λ t. rulingAt R closed d x (T t)) (e i))
-      (λ (i : inside R d x ≡ false). rw i)
+  at-same : (closed within u v : Bool) (deed : Deed (M × B)) → (within ≡ true → u ≡ v) → rulingAt R closed within u deed ≡ rulingAt R closed within v deed
+  at-same closed true u v deed e = ap (λ t. rulingAt R closed true t deed) (e refl)
+  at-same closed false u v deed e = refl
 
   ruling-same : (closed : Bool) (f g : ℕ → ℕ → Bool) → ((d x : ℕ) → inside R d x ≡ true → f d x ≡ g d x) → (c : Call F (M × B)) → ruling R closed f c ≡ ruling R closed g c
-  ruling-same closed f g e (Call.post d x a) = at-same closed d x (λ t. orElse (R .check a) (unless (not t) placeFilled 0)) (f d x) (g d x) (e d x)
-  ruling-same closed f g e (Call.replace d x a) = at-same closed d x (λ t. orElse (R .check a) (unless t placeEmpty 0)) (f d x) (g d x) (e d x)
-  ruling-same closed f g e (Call.withdraw d x) = at-same closed d x (λ t. unless t placeEmpty 0) (f d x) (g d x) (e d x)
+  ruling-same closed f g e (Call.post d x a) = at-same closed (inside R d x) (f d x) (g d x) (Deed.posts a) (e d x)
+  ruling-same closed f g e (Call.replace d x a) = at-same closed (inside R d x) (f d x) (g d x) (Deed.replaces a) (e d x)
+  ruling-same closed f g e (Call.withdraw d x) = at-same closed (inside R d x) (f d x) (g d x) Deed.withdraws (e d x)
   ruling-same closed f g e (Call.lossFee a z) = refl
   ruling-same closed f g e Call.close = refl
 
   -- a call is answered by the board as by the history
-  pub ruled : (h : List (Entry F (M × B))) (b : Board F M B) → Told R h b → (c : Call F (M × B)) → rulingOn R b c ≡ rulingAfter R h c
+  pub ruled : (h : List (Recorded F (M × B))) (b : Board F M B) → Told R h b → (c : Call F (M × B)) → rulingOn R b c ≡ rulingAfter R h c
   unfolding rulingOn
   ruled h b t c =
-      ruling-same (b .closed) (filledAt R b) (λ d x. stands (standing R h d x))
+      ruling-same (b .closed) (filledAt R b) (λ d x. stands (lastItem R h d x))
       (λ d x i. sym (stands-pick (filledAt R b d x) (itemAt R b (placeIn R d x))) ∙ ap stands (sym (in-month d x i) ∙ t .stands-is d x)) c
-      ∙ ap (λ s. ruling R s (λ d x. stands (standing R h d x)) c) (t .closed-is)
+      ∙ ap (λ s. ruling R s (λ d x. stands (lastItem R h d x)) c) (t .closed-is)
     where
       in-month : (d x : ℕ) → inside R d x ≡ true → standsOn R b d x ≡ pick (filledAt R b d x) (some (itemAt R b (placeIn R d x))) none
       in-month d x i = rw i
 
   -- a call at an hour that is let through
-  through : (closed : Bool) (d x rest : ℕ) → rulingAt R closed d x rest ≡ 0 → (inside R d x ≡ true) × (rest ≡ 0)
-  through closed d x rest e = passed (inside R d x) 5 rest (passed (not closed) 8 _ e .1)
+  through : (closed within filled : Bool) (deed : Deed (M × B)) → rulingAt R closed within filled deed ≡ 0 → (within ≡ true) × (deedRuling R filled deed ≡ 0)
+  through closed within filled deed e = passed within 5 _ (passed (not closed) 8 _ e .1)
 
   module _ (sound : Sound R) where
     pub start-told : Told R [] (fresh R)
-    unfolding fresh standing lastFee isClosed
+    unfolding fresh lastItem lastFee isClosed
     start-told = record { good = fresh-good R sound; stands-is = fresh-stands R sound; fee-is = λ _. refl; closed-is = refl }
 
     module _ (b : Board F M B) (g : Good R b) where
@@ -85,15 +81,15 @@ module _ {F M B : Type 0} (R : Rules F M B) where
       pub effect : (c : Call F (M × B)) → rulingOn R b c ≡ 0 → Effect R b (nextOn R b c) c
       unfolding rulingOn nextOn
       effect (Call.post d x a) e =
-          let t = through (b .closed) d x _ e in
+          let t = through (b .closed) (inside R d x) (filledAt R b d x) (Deed.posts a) e in
           let n = put-in d x a (t .0) (both-passed (R .check a) _ (t .1) .0) in
           record { good = n .0; stands-is = n .1; fee-is = λ _. refl; closed-is = refl }
       effect (Call.replace d x a) e =
-          let t = through (b .closed) d x _ e in
+          let t = through (b .closed) (inside R d x) (filledAt R b d x) (Deed.replaces a) e in
           let n = put-in d x a (t .0) (both-passed (R .check a) _ (t .1) .0) in
           record { good = n .0; stands-is = n .1; fee-is = λ _. refl; closed-is = refl }
       effect (Call.withdraw d x) e =
-          let t = through (b .closed) d x _ e in
+          let t = through (b .closed) (inside R d x) (filledAt R b d x) Deed.withdraws e in
           record {
             good = set-good R sound b g d x (R .blank) (t .0) (of-blank R sound _ _ ∙ sound .is-blank);
             stands-is = λ e y. set-stands R sound b g d x (R .blank) (t .0) e y
@@ -103,7 +99,7 @@ module _ {F M B : Type 0} (R : Rules F M B) where
           }
       effect (Call.lossFee f z) e =
           record {
-            good = record { fee-fits = λ k. set-fee (R .sameFee f k) k refl; each = g .each; marks-long = g .marks-long; items-long = g .items-long };
+            good = record { fee-fits = λ k. set-fee (R .sameFee f k) k refl; each = g .each; marks-long = g .marks-long; amounts-long = g .amounts-long };
             stands-is = λ _ _. refl;
             fee-is = λ _. refl;
             closed-is = refl;
@@ -117,7 +113,7 @@ module _ {F M B : Type 0} (R : Rules F M B) where
           set-fee false k s = g .fee-fits k
       effect Call.close e =
           record {
-            good = record { fee-fits = g .fee-fits; each = g .each; marks-long = g .marks-long; items-long = g .items-long };
+            good = record { fee-fits = g .fee-fits; each = g .each; marks-long = g .marks-long; amounts-long = g .amounts-long };
             stands-is = λ _ _. refl;
             fee-is = λ _. refl;
             closed-is = refl;
@@ -129,8 +125,8 @@ module _ {F M B : Type 0} (R : Rules F M B) where
     left-stays b g c = kept-any (Good R) (ruledIn R b c) (λ z. effect b g c (sym (good-refusal R sound b g c) ∙ z) .good) g
 
     -- the call and what it hands on
-    pub next-told : (h : List (Entry F (M × B))) (b : Board F M B) → Told R h b → (c : Call F (M × B)) → Told R (entry c (rulingOn R b c) ∷ h) (handed R b c)
-    unfolding handed standing lastFee isClosed
+    pub next-told : (h : List (Recorded F (M × B))) (b : Board F M B) → Told R h b → (c : Call F (M × B)) → Told R (recorded c (rulingOn R b c) ∷ h) (handed R b c)
+    unfolding handed lastItem lastFee isClosed
     next-told h b t c =
         let k = rulingOn R b c in
         let n : k ≡ 0 → Effect R b (nextOn R b c) c = effect b (t .good) c in

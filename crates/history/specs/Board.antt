@@ -6,16 +6,16 @@ use mathlib.Core.List.{List, [], _∷_, foldl}
 use lib.Dec.{leb, ltb, eqb}
 use lib.IntN.{ℤ, pos, _-ℤ_}
 use lib.ListN.{length, getD, set, replicate}
-use Rattle.whole.specs.Choice.{pick, unless, kept}
+use Rattle.whole.specs.Choice.{pick, unless, inOrder, kept}
 use Rattle.whole.specs.Folds.{sumTo, countTo, allTo}
 use Rattle.units.specs.Refusals.{wrongLength, notReachable, notInMonth, placeEmpty}
-use Rattle.history.specs.Rules.{Call, post, replace, withdraw, lossFee, close, Rules, inside, placeIn, placesOf, ruling}
+use Rattle.history.specs.Rules.{Call, post, replace, withdraw, lossFee, close, Deed, posts, replaces, withdraws, Rules, inside, placeIn, placesOf, left, rulingAt, ruling}
 
 pub record Board (F M B : Type 0) : Type 0 where
   pub closed : Bool
   pub fee : F → ℤ
   pub marks : List M
-  pub items : List B
+  pub amounts : List B
 
 -- what a read-out tells: a refusal has the amount 0
 abbrev pub told : ℕ → ℤ → ℕ × ℤ
@@ -23,7 +23,7 @@ told k amount = (k, kept k amount (pos 0))
 
 module _ {F M B : Type 0} (R : Rules F M B) where
   abbrev pub itemAt : Board F M B → ℕ → M × B
-  itemAt b p = (getD (b .marks) p (R .blank .0), getD (b .items) p (R .blank .1))
+  itemAt b p = (getD (b .marks) p (R .blank .0), getD (b .amounts) p (R .blank .1))
 
   -- whether a place is filled
   abbrev pub markAt : Board F M B → ℕ → Bool
@@ -31,7 +31,7 @@ module _ {F M B : Type 0} (R : Rules F M B) where
 
   -- every place empty, no fee, open
   unfoldable pub fresh : Board F M B
-  fresh = record { closed = false; fee = λ _. pos 0; marks = replicate (R .places) (R .blank .0); items = replicate (R .places) (R .blank .1) }
+  fresh = record { closed = false; fee = λ _. pos 0; marks = replicate (R .places) (R .blank .0); amounts = replicate (R .places) (R .blank .1) }
 
   -- a filled place is one of the month's and holds what may stand; an empty one holds the blank
   abbrev pub fitsAt : Board F M B → ℕ → Bool
@@ -55,15 +55,15 @@ module _ {F M B : Type 0} (R : Rules F M B) where
   rulingOn b c = ruling R (b .closed) (filledAt b) c
 
   abbrev pub placed : Board F M B → ℕ → M × B → Board F M B
-  placed b p a = record { closed = b .closed; fee = b .fee; marks = set (b .marks) p (a .0); items = set (b .items) p (a .1) }
+  placed b p a = record { closed = b .closed; fee = b .fee; marks = set (b .marks) p (a .0); amounts = set (b .amounts) p (a .1) }
 
   -- what a call that is let through leaves
   unfoldable pub nextOn : Board F M B → Call F (M × B) → Board F M B
-  nextOn b (post d x a) = placed b (placeIn R d x) (R .enter a)
-  nextOn b (replace d x a) = placed b (placeIn R d x) (R .enter a)
-  nextOn b (withdraw d x) = placed b (placeIn R d x) (R .blank)
-  nextOn b (lossFee f z) = record { closed = b .closed; fee = λ g. pick (R .sameFee f g) z (b .fee g); marks = b .marks; items = b .items }
-  nextOn b close = record { closed = true; fee = b .fee; marks = b .marks; items = b .items }
+  nextOn b (post d x a) = placed b (placeIn R d x) (left R (posts a))
+  nextOn b (replace d x a) = placed b (placeIn R d x) (left R (replaces a))
+  nextOn b (withdraw d x) = placed b (placeIn R d x) (left R withdraws)
+  nextOn b (lossFee f z) = record { closed = b .closed; fee = λ g. pick (R .sameFee f g) z (b .fee g); marks = b .marks; amounts = b .amounts }
+  nextOn b close = record { closed = true; fee = b .fee; marks = b .marks; amounts = b .amounts }
 
   -- what a call hands on: a refusal leaves the board as it was
   unfoldable pub handed : Board F M B → Call F (M × B) → Board F M B
@@ -71,12 +71,12 @@ module _ {F M B : Type 0} (R : Rules F M B) where
 
   -- ---- the read-outs, 22 left aside
 
-  -- one hour: 6, 8
-  abbrev pub hourRefusal : Board F M B → ℕ → ℕ → ℕ
-  hourRefusal b day hour = unless (inside R day hour) notInMonth (unless (filledAt b day hour) placeEmpty 0)
+  -- one hour, by whether it is inside the month and its place: 6, 8
+  abbrev pub hourRulingOn : Board F M B → Bool → ℕ → ℕ
+  hourRulingOn b within p = inOrder ((within, notInMonth) ∷ (markAt b p, placeEmpty) ∷ [])
 
   unfoldable pub hourOn : Board F M B → ℕ → ℕ → ℕ × ℤ
-  hourOn b day hour = told (hourRefusal b day hour) (R .worth (itemAt b (placeIn R day hour)))
+  hourOn b day hour = told (hourRulingOn b (inside R day hour) (placeIn R day hour)) (R .worth (itemAt b (placeIn R day hour)))
 
   -- a day's sum: 6
   unfoldable pub dayOn : Board F M B → ℕ → ℕ × ℤ
@@ -91,13 +91,13 @@ module _ {F M B : Type 0} (R : Rules F M B) where
   unfoldable pub partOn : Board F M B → ℕ → ℕ × ℤ
   partOn b q = told (R .checkPart q) (sumOn (R .part q) b)
 
-  -- the month total: the items less each loss fee
+  -- the month total: the amounts less each loss fee
   unfoldable pub totalOn : Board F M B → ℤ
   totalOn b = foldl (λ z f. z -ℤ b .fee f) (sumOn (R .worth) b) (R .fees)
 
   -- the number of standing hours
-  unfoldable pub hoursOn : Board F M B → ℕ
-  hoursOn b = countTo (R .places) (markAt b)
+  unfoldable pub standingOn : Board F M B → ℕ
+  standingOn b = countTo (R .places) (markAt b)
 
   -- ---- 22 first: a ledger that no run of calls hands back
 
@@ -115,17 +115,31 @@ module _ {F M B : Type 0} (R : Rules F M B) where
   -- ---- in place, on two lent runs: 1 where a run is not as long as the ledger's places, then 22
 
   abbrev pub runsFit : Board F M B → Bool
-  runsFit b = eqb (length (b .marks)) (R .places) && eqb (length (b .items)) (R .places)
+  runsFit b = eqb (length (b .marks)) (R .places) && eqb (length (b .amounts)) (R .places)
+
+  -- opening in place: 1, 6; and what it leaves, every place empty, or the board as it was
+  unfoldable pub openRuling : Board F M B → ℕ
+  openRuling b = inOrder ((runsFit b, wrongLength) ∷ (R .opens, notInMonth) ∷ [])
+
+  unfoldable pub openLeft : Board F M B → Board F M B
+  openLeft b = kept (openRuling b) fresh b
 
   -- whether a ledger in place is one that runs of calls hand back: 1, 22
   unfoldable pub ledgerRefusal : Board F M B → ℕ
-  ledgerRefusal b = unless (runsFit b) wrongLength (unless (wellFormed b) notReachable 0)
+  ledgerRefusal b = inOrder ((runsFit b, wrongLength) ∷ (wellFormed b, notReachable) ∷ [])
 
   -- a single call looks at no place but its own: of 22 it tests what stands beside the places
   abbrev pub lentRefusal : Board F M B → ℕ → ℕ
   lentRefusal b rest = unless (runsFit b) wrongLength (unless (feesFit b) notReachable rest)
 
-  -- what a call in place answers and leaves: 1, 22, then the ruling; a refusal leaves the board as it was
+  -- what a call at a place answers and leaves, where the place is inside the month or not: 1, 22, then the ruling; a refusal leaves the board as it was
+  unfoldable pub ruledAt : Board F M B → Bool → ℕ → Deed (M × B) → ℕ
+  ruledAt b within p deed = lentRefusal b (rulingAt R (b .closed) within (markAt b p) deed)
+
+  unfoldable pub handedAt : Board F M B → Bool → ℕ → Deed (M × B) → Board F M B
+  handedAt b within p deed = kept (ruledAt b within p deed) (placed b p (left R deed)) b
+
+  -- a call by its day and hour: of the place that they have it is the same
   unfoldable pub ruledIn : Board F M B → Call F (M × B) → ℕ
   ruledIn b c = lentRefusal b (rulingOn b c)
 
@@ -133,8 +147,12 @@ module _ {F M B : Type 0} (R : Rules F M B) where
   handedIn b c = kept (ruledIn b c) (nextOn b c) b
 
   -- one hour in place: 1, 22, 6, 8
-  unfoldable pub hourIn : Board F M B → ℕ → ℕ → ℕ × ℤ
-  hourIn b day hour = told (lentRefusal b (hourRefusal b day hour)) (R .worth (itemAt b (placeIn R day hour)))
+  unfoldable pub hourIn : Board F M B → Bool → ℕ → ℕ × ℤ
+  hourIn b within p = told (lentRefusal b (hourRulingOn b within p)) (R .worth (itemAt b p))
+
+  -- the month total in place: 1, 22
+  unfoldable pub totalIn : Board F M B → ℕ × ℤ
+  totalIn b = told (ledgerRefusal b) (totalOn b)
 
   -- ---- a board as posts: its standing hours in order of day and hour, newest first (#111)
 

@@ -10,7 +10,7 @@ use lib.IntN.{ℤ, pos}
 use Rattle.whole.specs.Folds.{sumTo}
 use Rattle.units.specs.Refusals.{placeEmpty, notReachable}
 use Rattle.history.specs.Rules.{Call, Rules, inside}
-use Rattle.history.specs.History.{Entry, Ruled, hourIs, dayIs, partIs, earnedIs, totalIs, hoursIs}
+use Rattle.history.specs.History.{Recorded, Ruled, hourIs, dayIs, partIs, earnedIs, totalIs, standingIs}
 
 -- the contracts of a ledger of items M × B, with the fees F, whose months open by plans P and whose states are S; a read-out's answer is its refusal number
 -- and its figure
@@ -25,16 +25,16 @@ pub record Ledger (P F M B S : Type 0) : Type 1 where
   pub Day : S → ℕ → ℕ × ℤ → Type 0
   pub Part : S → ℕ → ℕ × ℤ → Type 0
   pub Total : S → ℕ × ℤ → Type 0
-  pub Hours : S → ℕ × ℕ → Type 0
+  pub Standing : S → ℕ × ℕ → Type 0
 
 module _ {P F M B S : Type 0} (L : Ledger P F M B S) (p : P) where
   -- "Take one and any run of posts, replacements, withdrawals, loss fee settings and closings, each given the ledger that the one before
   -- handed back."
-  pub data Run : List (Entry F (M × B)) → S → Type 0 where
+  pub data Run : List (Recorded F (M × B)) → S → Type 0 where
     opened : (s : S) → L .Opens p s → Run [] s
-    called : (h : List (Entry F (M × B))) (s : S) (c : Call F (M × B)) (k : ℕ) (t : S) → Run h s → L .Answers s c k t → Run (record { call = c; answer = k } ∷ h) t
+    called : (h : List (Recorded F (M × B))) (s : S) (c : Call F (M × B)) (k : ℕ) (t : S) → Run h s → L .Answers s c k t → Run (record { call = c; answer = k } ∷ h) t
 
-  pub record Demand3 (h : List (Entry F (M × B))) (s : S) : Type 0 where
+  pub record Demand3 (h : List (Recorded F (M × B))) (s : S) : Type 0 where
     -- "A call is accepted exactly when document 01 lets it be."
     pub accepted : Ruled (L .rules p) h
     -- "The month total then equals the sum, over the hours, of the amount last accepted for that hour and not withdrawn since, less the last
@@ -43,22 +43,22 @@ module _ {P F M B S : Type 0} (L : Ledger P F M B S) (p : P) where
     -- "Each hour's read-out, each day's sum and the number of standing hours follow from the same history."
     pub hour : (d x : ℕ) (r : ℕ × ℤ) → L .Hour s d x r → r ≡ hourIs (L .rules p) h d x
     pub day : (d : ℕ) (r : ℕ × ℤ) → L .Day s d r → r ≡ dayIs (L .rules p) h d
-    pub hours : (r : ℕ × ℕ) → L .Hours s r → r ≡ (0, hoursIs (L .rules p) h)
+    pub standing : (r : ℕ × ℕ) → L .Standing s r → r ≡ (0, standingIs (L .rules p) h)
     -- #111: "the five product sums, each from the history, add up to the total before the loss fees."
     pub part : (q : ℕ) (r : ℕ × ℤ) → L .Part s q r → r ≡ partIs (L .rules p) h q
     pub parts : sumTo (L .rules p .parts) (λ k. partIs (L .rules p) h (suc k) .1) ≡ earnedIs (L .rules p) h
 
   -- "Every month .. opens, fresh and with no hour standing": what is told of a month that was just opened
-  pub record Opened (s : S) : Type 0 where
+  pub record OpensEmpty (s : S) : Type 0 where
     pub hour : (d x : ℕ) → inside (L .rules p) d x ≡ true → (r : ℕ × ℤ) → L .Hour s d x r → r ≡ (placeEmpty, pos 0)
     pub day : (d : ℕ) → leb 1 d && leb d (L .rules p .days) ≡ true → (r : ℕ × ℤ) → L .Day s d r → r ≡ (0, pos 0)
     pub total : (r : ℕ × ℤ) → L .Total s r → r ≡ (0, pos 0)
-    pub hours : (r : ℕ × ℕ) → L .Hours s r → r ≡ (0, 0)
+    pub standing : (r : ℕ × ℕ) → L .Standing s r → r ≡ (0, 0)
 
 -- what some run of calls from a fresh month hands back
 pub record Reachable {P F M B S : Type 0} (L : Ledger P F M B S) (s : S) : Type 0 where
   pub plan : P
-  pub history : List (Entry F (M × B))
+  pub history : List (Recorded F (M × B))
   pub run : Run L plan history s
 
 -- 22, "a handed-in ledger that no run of calls from a fresh month hands back", just there: of the calls and of the read-outs
@@ -71,4 +71,4 @@ pub record Exact22 {P F M B S : Type 0} (L : Ledger P F M B S) (s : S) : Type 0 
   pub day : (d : ℕ) (r : ℕ × ℤ) → L .Day s d r → Just22 L s (r .0)
   pub part : (q : ℕ) (r : ℕ × ℤ) → L .Part s q r → Just22 L s (r .0)
   pub total : (r : ℕ × ℤ) → L .Total s r → Just22 L s (r .0)
-  pub hours : (r : ℕ × ℕ) → L .Hours s r → Just22 L s (r .0)
+  pub standing : (r : ℕ × ℕ) → L .Standing s r → Just22 L s (r .0)

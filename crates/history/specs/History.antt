@@ -13,7 +13,7 @@ use Rattle.history.specs.Rules.{Call, post, replace, withdraw, lossFee, 
 use Rattle.history.specs.Board.{told}
 
 -- a call and its answer: 0, or the number of its refusal
-pub record Entry (F A : Type 0) : Type 0 where
+pub record Recorded (F A : Type 0) : Type 0 where
   pub call : Call F A
   pub answer : ℕ
 
@@ -35,7 +35,7 @@ module _ {F A : Type 0} where
   closedAfter close old = true
 
   -- whether a close was accepted
-  unfoldable pub isClosed : List (Entry F A) → Bool
+  unfoldable pub isClosed : List (Recorded F A) → Bool
   isClosed [] = false
   isClosed (e ∷ h) = kept (e .answer) (closedAfter (e .call) (isClosed h)) (isClosed h)
 
@@ -49,9 +49,9 @@ module _ {F M B : Type 0} (R : Rules F M B) where
   leaves close day hour old = old
 
   -- what stands at an hour: the item last accepted for it and not withdrawn since
-  unfoldable pub standing : List (Entry F (M × B)) → ℕ → ℕ → Option (M × B)
-  standing [] day hour = none
-  standing (e ∷ h) day hour = kept (e .answer) (leaves (e .call) day hour (standing h day hour)) (standing h day hour)
+  unfoldable pub lastItem : List (Recorded F (M × B)) → ℕ → ℕ → Option (M × B)
+  lastItem [] day hour = none
+  lastItem (e ∷ h) day hour = kept (e .answer) (leaves (e .call) day hour (lastItem h day hour)) (lastItem h day hour)
 
   abbrev pub feeAfter : Call F (M × B) → F → ℤ → ℤ
   feeAfter (post d x a) fee old = old
@@ -61,48 +61,48 @@ module _ {F M B : Type 0} (R : Rules F M B) where
   feeAfter close fee old = old
 
   -- each fee's last accepted amount, or zero if there was none
-  unfoldable pub lastFee : List (Entry F (M × B)) → F → ℤ
+  unfoldable pub lastFee : List (Recorded F (M × B)) → F → ℤ
   lastFee [] fee = pos 0
   lastFee (e ∷ h) fee = kept (e .answer) (feeAfter (e .call) fee (lastFee h fee)) (lastFee h fee)
 
   -- what document 01 answers to a call after a history: 0 lets it be
-  abbrev pub rulingAfter : List (Entry F (M × B)) → Call F (M × B) → ℕ
-  rulingAfter h c = ruling R (isClosed h) (λ d x. stands (standing h d x)) c
+  abbrev pub rulingAfter : List (Recorded F (M × B)) → Call F (M × B) → ℕ
+  rulingAfter h c = ruling R (isClosed h) (λ d x. stands (lastItem h d x)) c
 
   -- every call was answered so
-  abbrev pub Ruled : List (Entry F (M × B)) → Type 0
+  abbrev pub Ruled : List (Recorded F (M × B)) → Type 0
   Ruled [] = Unit {0}
   Ruled (e ∷ h) = (e .answer ≡ rulingAfter h (e .call)) × Ruled h
 
   -- ---- what the read-outs tell after a history
 
   -- one hour: 6, 8
-  abbrev pub hourIs : List (Entry F (M × B)) → ℕ → ℕ → ℕ × ℤ
+  abbrev pub hourIs : List (Recorded F (M × B)) → ℕ → ℕ → ℕ × ℤ
   hourIs h day hour =
-      told (unless (inside R day hour) notInMonth (unless (stands (standing h day hour)) placeEmpty 0)) (readAs (R .worth) (standing h day hour))
+      told (unless (inside R day hour) notInMonth (unless (stands (lastItem h day hour)) placeEmpty 0)) (readAs (R .worth) (lastItem h day hour))
 
   -- the sum over a day's hours, and over the days, of what stands there, read as any amount
-  abbrev pub daySum : (M × B → ℤ) → List (Entry F (M × B)) → ℕ → ℤ
-  daySum value h day = sumTo (R .hoursOf day) (λ x. readAs value (standing h day x))
+  abbrev pub daySum : (M × B → ℤ) → List (Recorded F (M × B)) → ℕ → ℤ
+  daySum value h day = sumTo (R .hoursOf day) (λ x. readAs value (lastItem h day x))
 
-  abbrev pub monthSum : (M × B → ℤ) → List (Entry F (M × B)) → ℤ
+  abbrev pub monthSum : (M × B → ℤ) → List (Recorded F (M × B)) → ℤ
   monthSum value h = sumTo (R .days) (λ k. daySum value h (suc k))
 
   -- a day's sum: 6
-  abbrev pub dayIs : List (Entry F (M × B)) → ℕ → ℕ × ℤ
+  abbrev pub dayIs : List (Recorded F (M × B)) → ℕ → ℕ × ℤ
   dayIs h day = told (unless (leb 1 day && leb day (R .days)) notInMonth 0) (daySum (R .worth) h day)
 
   -- a part's sum: the part's own number
-  abbrev pub partIs : List (Entry F (M × B)) → ℕ → ℕ × ℤ
+  abbrev pub partIs : List (Recorded F (M × B)) → ℕ → ℕ × ℤ
   partIs h q = told (R .checkPart q) (monthSum (R .part q) h)
 
   -- the month total before the loss fees, and less each of them
-  abbrev pub earnedIs : List (Entry F (M × B)) → ℤ
+  abbrev pub earnedIs : List (Recorded F (M × B)) → ℤ
   earnedIs h = monthSum (R .worth) h
 
-  abbrev pub totalIs : List (Entry F (M × B)) → ℤ
+  abbrev pub totalIs : List (Recorded F (M × B)) → ℤ
   totalIs h = foldl (λ z f. z -ℤ lastFee h f) (earnedIs h) (R .fees)
 
   -- the number of standing hours
-  abbrev pub hoursIs : List (Entry F (M × B)) → ℕ
-  hoursIs h = addTo (R .days) (λ k. countTo (R .hoursOf (suc k)) (λ x. stands (standing h (suc k) x)))
+  abbrev pub standingIs : List (Recorded F (M × B)) → ℕ
+  standingIs h = addTo (R .days) (λ k. countTo (R .hoursOf (suc k)) (λ x. stands (lastItem h (suc k) x)))

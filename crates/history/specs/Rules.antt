@@ -17,6 +17,11 @@ pub data Call (F A : Type 0) : Type 0 where
   lossFee : F → ℤ → Call F A
   close : Call F A
 
+-- what a call does at its hour: puts an item where none stands, puts another, or empties it
+pub data Deed (A : Type 0) : Type 0 where
+  posts replaces : A → Deed A
+  withdraws : Deed A
+
 pub record Rules (F M B : Type 0) : Type 0 where
   -- whether a month by these rules opens
   pub opens : Bool
@@ -66,16 +71,27 @@ module _ {F M B : Type 0} (R : Rules F M B) where
   abbrev pub placesOf : ℕ
   placesOf = hoursTo (R .hoursOf) (R .days)
 
-  -- 9, 6, then what the rest says
-  abbrev pub rulingAt : Bool → ℕ → ℕ → ℕ → ℕ
-  rulingAt closed day hour rest = unless (not closed) monthClosed (unless (inside day hour) notInMonth rest)
+  -- the item's own number (3), then 7 or 8 by whether the place is filled
+  abbrev pub deedRuling : Bool → Deed (M × B) → ℕ
+  deedRuling filled (posts a) = orElse (R .check a) (unless (not filled) placeFilled 0)
+  deedRuling filled (replaces a) = orElse (R .check a) (unless filled placeEmpty 0)
+  deedRuling filled withdraws = unless filled placeEmpty 0
 
-  -- the order of refusals, where the month is closed or not and hours are filled or not: 9, 6, the item's own number (3), then 7 or 8.
-  -- 0 lets the call through.
+  -- what it leaves at its place
+  abbrev pub left : Deed (M × B) → M × B
+  left (posts a) = R .enter a
+  left (replaces a) = R .enter a
+  left withdraws = R .blank
+
+  -- the order of refusals at an hour, where the month is closed or not, the hour inside it or not and filled or not: 9, 6, the item's own number (3),
+  -- then 7 or 8. 0 lets the call through.
+  abbrev pub rulingAt : Bool → Bool → Bool → Deed (M × B) → ℕ
+  rulingAt closed within filled deed = unless (not closed) monthClosed (unless within notInMonth (deedRuling filled deed))
+
   abbrev pub ruling : Bool → (ℕ → ℕ → Bool) → Call F (M × B) → ℕ
-  ruling closed filled (post d x a) = rulingAt closed d x (orElse (R .check a) (unless (not (filled d x)) placeFilled 0))
-  ruling closed filled (replace d x a) = rulingAt closed d x (orElse (R .check a) (unless (filled d x) placeEmpty 0))
-  ruling closed filled (withdraw d x) = rulingAt closed d x (unless (filled d x) placeEmpty 0)
+  ruling closed filled (post d x a) = rulingAt closed (inside d x) (filled d x) (posts a)
+  ruling closed filled (replace d x a) = rulingAt closed (inside d x) (filled d x) (replaces a)
+  ruling closed filled (withdraw d x) = rulingAt closed (inside d x) (filled d x) withdraws
   ruling closed filled (lossFee f z) = unless (not closed) monthClosed (R .checkFee f z)
   ruling closed filled close = unless (not closed) monthClosed 0
 

@@ -1,172 +1,208 @@
--- An hour's inputs fit just where its refusal is 0; and what the refusal decides of the answer and of the lent run. By the chain's tests. Assumes nothing.
-use Prim.Native.Nat.{ℕ, _+_, _<_}
+-- An hour's inputs fit just where its refusal is 0; the core is the hour where the terms are let through; and what the refusal decides of the answer
+-- and of the lent run. By the lists of tests. Assumes nothing.
+use Prim.Native.Nat.{ℕ, _<_}
 use mathlib.Core.Path.{_≡_, refl, sym, ap, _∙_}
-use mathlib.Core.Bool.{Bool, true, false, _&&_}
-use mathlib.Core.List.{List}
-use native.Mathlib.Nat.{zero-add}
+use mathlib.Core.Bool.{true, false, _&&_}
+use mathlib.Core.List.{List, _++_}
 use native.Mathlib.Omega.{arith}
 use lib.Dec.{eqb}
 use lib.IntN.{ℤ, pos, _+ℤ_}
-use lib.ListN.{length, getD}
+use lib.ListN.{length, getD, length-replicate, getD-replicate}
 use mir.Syntax.{w64}
 use mir.Val.{SFits}
-use borrow.Author.Tests.{eqb-true, eq-eqb, ne-eqb}
-use Rattle.whole.specs.Choice.{unless, orElse}
-use Rattle.whole.specs.Whole.{minus, allInRange}
-use Rattle.whole.specs.Runs.{listed}
-use Rattle.whole.proofs.Choice.{and-both, by-test, passed, both-passed, or-rest, unless-then, or-else-then, kept-new, kept-old}
-use Rattle.whole.proofs.Runs.{listed-same}
+use borrow.Author.Tests.{eqb-true, eq-eqb}
+use Rattle.whole.specs.Choice.{orElse, inOrder}
+use Rattle.whole.specs.Whole.{minus, Within}
+use Rattle.whole.proofs.Choice.{and-both, by-test, all-passed, passed-all, in-order-then, or-first, or-rest, kept-new, kept-old, kept-any}
+use Rattle.whole.proofs.Runs.{length-listed}
 use Rattle.whole.proofs.Signed.{within-fits}
-use Rattle.units.specs.Refusals.{wrongLength, badCapacity, badMoney, badTransfer, badReading}
+use Rattle.whole.proofs.Sums.{within-in, inside-all}
+use Rattle.units.specs.Limits.{isCapacity, isPrice, areTransfers, mostTransfer, mostAmount, isAmount, secondsOfHour}
 use Rattle.units.specs.declared.Dollars.{Dollars}
-use Rattle.ramp.specs.Ramp.{planOf}
 use Rattle.ramp.proofs.Laws.{plan-at, length-plan, plan-inside}
-use Rattle.bands.specs.Bands.{bandsRefusal}
-use Rattle.score.specs.Score.{isCapacity, secondScore}
-use Rattle.score.specs.Run.{runScoreAt, runScores, runRefusal}
-use Rattle.fees.specs.Fees.{qualityAnswer, energyAnswer}
-use Rattle.fees.proofs.Laws.{amount-within}
-use Rattle.hour.specs.Hour.{lengthsFit, pricesFit, readingsFit, hourRefusal, termsRefusal, scoreAt, scoresOf, scoresLeft, answerOf, settledOf, refusedOf, hourOf}
-use Rattle.hour.specs.declared.Terms.{Terms}
+use Rattle.bands.specs.Bands.{bandsFit, bandsRefusal}
+use Rattle.score.specs.Run.{runRefusal, runScores, runLeft}
+use Rattle.fees.specs.Fees.{qualityAnswer, mostEnergyFee, mostHourAmount}
+use Rattle.fees.proofs.Laws.{energy-within, amount-within}
+use Rattle.hour.specs.Hour.{Service, dReg, eDReg, WholeHour, transfersOf, energyOf, energyPricesFit, targetsFit, lengthsFit, readingsFit, testsOf, termsRefusal, readingsTests, hourRefusal, scoresOf, scoresLeft, grantedHour, settledOf, refusedHour, hourAnswer}
+use Rattle.hour.specs.Accepted.{transferIn}
+use Rattle.hour.specs.Inner.{workedOf}
+use Rattle.hour.specs.declared.Settlement.{Settlement}
+
+-- ---- the tests
 
 -- three runs of 3,600
 pub record Long (powers frequencies places : ℕ) : Type 0 where
-  pub of-powers : powers ≡ 3600
-  pub of-frequencies : frequencies ≡ 3600
-  pub of-places : places ≡ 3600
+  pub of-powers : powers ≡ secondsOfHour
+  pub of-frequencies : frequencies ≡ secondsOfHour
+  pub of-places : places ≡ secondsOfHour
 
 pub long : (powers frequencies places : ℕ) → lengthsFit powers frequencies places ≡ true → Long powers frequencies places
 long p f s e =
-    let a = and-both (eqb p 3600 && eqb f 3600) (eqb s 3600) e in
-    let b = and-both (eqb p 3600) (eqb f 3600) (a .0) in
-    record { of-powers = eqb-true p 3600 (b .0); of-frequencies = eqb-true f 3600 (b .1); of-places = eqb-true s 3600 (a .1) }
+    let a = and-both (eqb p secondsOfHour && eqb f secondsOfHour) (eqb s secondsOfHour) e in
+    let b = and-both (eqb p secondsOfHour) (eqb f secondsOfHour) (a .0) in
+    record { of-powers = eqb-true p secondsOfHour (b .0); of-frequencies = eqb-true f secondsOfHour (b .1); of-places = eqb-true s secondsOfHour (a .1) }
 
-pub scores-done : (powers frequencies : List ℤ) (t : Terms) (n : ℕ) → n ≡ 3600 → listed (scoreAt powers frequencies t) 0 n ≡ scoresOf powers frequencies t
-unfolding scoresOf
-scores-done powers frequencies t n e = ap (listed (scoreAt powers frequencies t) 0) e
+-- the bands' call refuses just what does not fit
+pub bands-test : (thresholds factors : List ℤ) → eqb (bandsRefusal thresholds factors) 0 ≡ bandsFit thresholds factors
+unfolding bandsRefusal
+bands-test ts fs = by-test (bandsFit ts fs) (λ (t : bandsFit ts fs ≡ true). rw t) (λ (t : bandsFit ts fs ≡ false). rw t)
 
 -- an hour that is not refused
-pub record Fit (powers frequencies : List ℤ) (places : ℕ) (t : Terms) (thresholds factors : List ℤ) : Type 0 where
-  pub lengths : lengthsFit (length powers) (length frequencies) places ≡ true
-  pub capacity : isCapacity (t .capacity .0) ≡ true
-  pub prices : pricesFit t ≡ true
-  pub bands : bandsRefusal thresholds factors ≡ 0
-  pub targets : allInRange (minus 100000) (pos 100000) (t .targets) ≡ true
-  pub readings : readingsFit powers frequencies ≡ true
+pub record Fit (h : WholeHour) (places : ℕ) : Type 0 where
+  pub lengths : lengthsFit (length (h .powers)) (length (h .frequencies)) places ≡ true
+  pub capacity : isCapacity (h .terms .capacity .0) ≡ true
+  pub prices : (isPrice (h .terms .clearing) && isPrice (h .terms .performance) && energyPricesFit (h .service)) ≡ true
+  pub bands : bandsFit (h .thresholds) (h .factors) ≡ true
+  pub targets : targetsFit (h .service) ≡ true
+  pub readings : readingsFit (h .powers) (h .frequencies) ≡ true
 
-pub fit : (powers frequencies : List ℤ) (places : ℕ) (t : Terms) (thresholds factors : List ℤ)
-    → hourRefusal powers frequencies places t thresholds factors ≡ 0 → Fit powers frequencies places t thresholds factors
+pub fit : (h : WholeHour) (places : ℕ) → hourRefusal h places ≡ 0 → Fit h places
 unfolding hourRefusal
-fit powers frequencies places t ts fs e =
-    let a = passed (lengthsFit (length powers) (length frequencies) places) 0 _ e in
-    let b = passed (isCapacity (t .capacity .0)) 1 _ (a .1) in
-    let c = passed (pricesFit t) 2 _ (b .1) in
-    let d = both-passed (bandsRefusal ts fs) _ (c .1) in
-    let f = passed (allInRange (minus 100000) (pos 100000) (t .targets)) 9 _ (d .1) in
-    let g = passed (readingsFit powers frequencies) 3 0 (f .1) in
-    record { lengths = a .0; capacity = b .0; prices = c .0; bands = d .0; targets = f .0; readings = g .0 }
+fit h places e =
+    let p = all-passed (testsOf h places ++ readingsTests h) refl e in
+    record { lengths = p .0; capacity = p .1 .0; prices = p .1 .1 .0; bands = p .1 .1 .1 .0; targets = p .1 .1 .1 .1 .0; readings = p .1 .1 .1 .1 .1 .0 }
 
 -- and an hour that fits is not refused
-lets : {b : Bool} {rest : ℕ} (k : ℕ) → b ≡ true → rest ≡ 0 → unless b k rest ≡ 0
-lets k p q = rw (p, q)
-
-pub fit-none : (powers frequencies : List ℤ) (places : ℕ) (t : Terms) (thresholds factors : List ℤ)
-    → Fit powers frequencies places t thresholds factors → hourRefusal powers frequencies places t thresholds factors ≡ 0
+pub fit-none : (h : WholeHour) (places : ℕ) → Fit h places → hourRefusal h places ≡ 0
 unfolding hourRefusal
-fit-none powers frequencies places t ts fs f =
-    let transfers = lets badTransfer (f .targets) (lets badReading (f .readings) refl) in
-    lets wrongLength (f .lengths) (lets badCapacity (f .capacity) (lets badMoney (f .prices) (or-rest _ (f .bands) ∙ transfers)))
+fit-none h places f =
+    passed-all (testsOf h places ++ readingsTests h) (f .lengths, (f .capacity, (f .prices, (f .bands, (f .targets, (f .readings, tt))))))
 
--- all but the readings
-pub record TermsFit (powers frequencies places : ℕ) (t : Terms) : Type 0 where
-  pub lengths : lengthsFit powers frequencies places ≡ true
-  pub capacity : isCapacity (t .capacity .0) ≡ true
-  pub targets : allInRange (minus 100000) (pos 100000) (t .targets) ≡ true
+-- the refusal of the terms, and that of the readings, which comes last
+abbrev pub ofTerms : WholeHour → ℕ → ℕ
+ofTerms h places =
+    termsRefusal (length (h .powers)) (length (h .frequencies)) places (h .terms) (h .thresholds) (h .factors) (energyPricesFit (h .service)) (targetsFit (h .service))
 
-pub terms-fit : (powers frequencies places : ℕ) (t : Terms) (thresholds factors : List ℤ)
-    → termsRefusal powers frequencies places t thresholds factors ≡ 0 → TermsFit powers frequencies places t
-unfolding termsRefusal
-terms-fit powers frequencies places t ts fs e =
-    let a = passed (lengthsFit powers frequencies places) 0 _ e in
-    let b = passed (isCapacity (t .capacity .0)) 1 _ (a .1) in
-    let c = passed (pricesFit t) 2 _ (b .1) in
-    let d = both-passed (bandsRefusal ts fs) _ (c .1) in
-    let f = passed (allInRange (minus 100000) (pos 100000) (t .targets)) 9 0 (d .1) in
-    record { lengths = a .0; capacity = b .0; targets = f .0 }
+abbrev pub ofReadings : WholeHour → ℕ
+ofReadings h = inOrder (readingsTests h)
 
--- the readings' refusal comes last
-pub readings-last : (powers frequencies : List ℤ) (places : ℕ) (t : Terms) (thresholds factors : List ℤ)
-    → hourRefusal powers frequencies places t thresholds factors
-    ≡ orElse (termsRefusal (length powers) (length frequencies) places t thresholds factors) (unless (readingsFit powers frequencies) badReading 0)
+pub readings-last : (h : WholeHour) (places : ℕ) → hourRefusal h places ≡ orElse (ofTerms h places) (ofReadings h)
 unfolding hourRefusal termsRefusal
-readings-last powers frequencies places t ts fs =
-    let last = unless (readingsFit powers frequencies) badReading 0 in
-    let transfers = unless-then (allInRange (minus 100000) (pos 100000) (t .targets)) 9 0 last in
-    let bands = ap (orElse (bandsRefusal ts fs)) transfers ∙ or-else-then (bandsRefusal ts fs) _ last in
-    let prices = ap (unless (pricesFit t) badMoney) bands ∙ unless-then (pricesFit t) 2 _ last in
-    let capacity = ap (unless (isCapacity (t .capacity .0)) badCapacity) prices ∙ unless-then (isCapacity (t .capacity .0)) 1 _ last in
-    let lengths = lengthsFit (length powers) (length frequencies) places in
-    ap (unless lengths wrongLength) capacity ∙ unless-then lengths 0 _ last
+readings-last h places = in-order-then (testsOf h places) (readingsTests h) refl
 
--- ---- the run call, over the plan of an hour
+-- terms that are let through
+pub record TermsFit (h : WholeHour) (places : ℕ) : Type 0 where
+  pub lengths : lengthsFit (length (h .powers)) (length (h .frequencies)) places ≡ true
+  pub capacity : isCapacity (h .terms .capacity .0) ≡ true
+  pub targets : targetsFit (h .service) ≡ true
 
-module _ (powers frequencies : List ℤ) (t : Terms) where
-  pub run-refusal-is : (places : ℕ) → lengthsFit (length powers) (length frequencies) places ≡ true → isCapacity (t .capacity .0) ≡ true
-      → allInRange (minus 100000) (pos 100000) (t .targets) ≡ true
-      → runRefusal powers frequencies (planOf (t .targets)) (t .capacity) places ≡ unless (readingsFit powers frequencies) badReading 0
+pub terms-fit : (h : WholeHour) (places : ℕ) → ofTerms h places ≡ 0 → TermsFit h places
+unfolding termsRefusal
+terms-fit h places e =
+    let p = all-passed (testsOf h places) refl e in
+    record { lengths = p .0; capacity = p .1 .0; targets = p .1 .1 .1 .1 .0 }
+
+-- ---- the transfers
+
+pub length-transfers : (s : Service) → length (transfersOf s) ≡ secondsOfHour
+unfolding transfersOf
+length-transfers dReg = length-replicate secondsOfHour (pos 0)
+length-transfers (eDReg shift) = length-plan (shift .targets)
+
+pub transfer-at : (s : Service) (i : ℕ) → i < secondsOfHour → getD (transfersOf s) i (pos 0) ≡ transferIn s i
+unfolding transfersOf
+transfer-at dReg i h = getD-replicate secondsOfHour i (pos 0) (pos 0) h
+transfer-at (eDReg shift) i h = plan-at (shift .targets) i h
+
+pub transfers-fit : (s : Service) → targetsFit s ≡ true → areTransfers (transfersOf s) ≡ true
+unfolding transfersOf
+transfers-fit dReg e =
+    inside-all (minus mostTransfer) (pos mostTransfer) (transfersOf dReg) (λ i l.
+    let h : i < secondsOfHour = omega (arith, length-transfers dReg) in
+    rw (transfer-at dReg i h) (within-in {k = mostTransfer} (omega arith)))
+transfers-fit (eDReg shift) e = plan-inside (shift .targets) e
+
+-- ---- the core, where the terms are let through
+
+module _ (h : WholeHour) (places : ℕ) (f : TermsFit h places) where
+  pub run-refusal-is : runRefusal (h .powers) (h .frequencies) (transfersOf (h .service)) (h .terms .capacity) places ≡ ofReadings h
   unfolding runRefusal
-  run-refusal-is places e c inside =
-      let l = long (length powers) (length frequencies) places e in
-      let p = l .of-powers in
-      let f : length frequencies ≡ length powers = l .of-frequencies ∙ sym p in
-      let n : length (planOf (t .targets)) ≡ length powers = length-plan (t .targets) ∙ sym p in
-      let s : places ≡ length powers = l .of-places ∙ sym p in
-      rw (eq-eqb _ _ f, eq-eqb _ _ n, eq-eqb _ _ s, c, plan-inside (t .targets) inside)
+  run-refusal-is =
+      let l = long (length (h .powers)) (length (h .frequencies)) places (f .lengths) in
+      let p = sym (l .of-powers) in
+      rw (
+        eq-eqb _ _ (l .of-frequencies ∙ p),
+        eq-eqb _ _ (length-transfers (h .service) ∙ p),
+        eq-eqb _ _ (l .of-places ∙ p),
+        f .capacity,
+        transfers-fit (h .service) (f .targets),
+      )
 
-  pub run-scores-are : length powers ≡ 3600 → runScores powers frequencies (planOf (t .targets)) (t .capacity) ≡ scoresOf powers frequencies t
-  unfolding runScores runScoreAt scoreAt
-  run-scores-are e =
-      listed-same (runScoreAt powers frequencies (planOf (t .targets)) (t .capacity)) (scoreAt powers frequencies t) 0 0 (length powers)
-      (λ k h. second (0 + k) (omega (arith, zero-add k)))
-      ∙ scores-done powers frequencies t (length powers) e
-    where
-      second : (i : ℕ) → i < 3600 → runScoreAt powers frequencies (planOf (t .targets)) (t .capacity) i ≡ scoreAt powers frequencies t i
-      second i h =
-          ap (λ (z : ℤ). secondScore (record { 0 = getD powers i (pos 0) }) (record { 0 = z }) (t .capacity) (record { 0 = getD frequencies i (pos 0) }) .score) (plan-at (t .targets) i h)
+module _ (h : WholeHour) (places : ℕ) (none : ofTerms h places ≡ 0) where
+  readings-left : hourRefusal h places ≡ ofReadings h
+  readings-left = readings-last h places ∙ or-rest (ofReadings h) none
 
--- the amount of any parts fits
-pub amount-fits : (capacity performance : Dollars) (factor : ℤ) (powers targets : List ℤ) (discharge charge : ℤ)
-    → SFits w64 (qualityAnswer capacity performance factor .dollars .0 +ℤ energyAnswer powers targets discharge charge .dollars .0)
-amount-fits capacity performance factor powers targets discharge charge =
-    within-fits w64 tt (amount-within capacity performance factor powers targets discharge charge)
+  run-refusal-left : runRefusal (h .powers) (h .frequencies) (transfersOf (h .service)) (h .terms .capacity) places ≡ hourRefusal h places
+  run-refusal-left = run-refusal-is h places (terms-fit h places none) ∙ sym readings-left
+
+  pub worked-is : workedOf (h .powers) (h .frequencies) (transfersOf (h .service)) (h .terms) (h .thresholds) (h .factors) (energyOf (h .powers) (h .service)) places ≡ hourAnswer h places
+  unfolding workedOf hourAnswer scoresOf
+  worked-is = rw run-refusal-left
+
+pub left-is : (h : WholeHour) (run : List ℕ) → ofTerms h (length run) ≡ 0
+    → runLeft (h .powers) (h .frequencies) (transfersOf (h .service)) (h .terms .capacity) run ≡ scoresLeft h run
+unfolding runLeft scoresLeft scoresOf
+left-is h run none = rw (run-refusal-left h (length run) none)
 
 -- ---- what the refusal decides
 
-module _ (powers frequencies : List ℤ) (places : ℕ) (t : Terms) (thresholds factors : List ℤ) where
-  abbrev of-places : ℕ
-  of-places = hourRefusal powers frequencies places t thresholds factors
+module _ (h : WholeHour) (places : ℕ) where
+  pub hour-granted : hourRefusal h places ≡ 0
+      → hourAnswer h places ≡ settledOf (h .terms) (h .thresholds) (h .factors) (energyOf (h .powers) (h .service)) (scoresOf h)
+  unfolding hourAnswer
+  hour-granted e = kept-new _ _ e
 
-  pub hour-granted : of-places ≡ 0 → settledOf powers t thresholds factors (scoresOf powers frequencies t) ≡ hourOf powers frequencies places t thresholds factors
-  unfolding hourOf
-  hour-granted e = rw e
-
-  pub hour-refused : (of-places ≡ 0 → ⊥) → refusedOf of-places ≡ hourOf powers frequencies places t thresholds factors
-  unfolding hourOf
-  hour-refused h = rw (ne-eqb of-places 0 h)
+  pub hour-refused : (hourRefusal h places ≡ 0 → ⊥) → hourAnswer h places ≡ refusedHour (hourRefusal h places)
+  unfolding hourAnswer
+  hour-refused n = kept-old _ _ n
 
   -- the answer's number is the hour's refusal
-  pub refusal-is : hourOf powers frequencies places t thresholds factors .refusal ≡ of-places
-  unfolding hourOf settledOf answerOf refusedOf
-  refusal-is = by-test (eqb of-places 0) (λ (e : eqb of-places 0 ≡ true). rw e (sym (eqb-true of-places 0 e))) (λ (e : eqb of-places 0 ≡ false). rw e)
+  pub refusal-is : hourAnswer h places .refusal ≡ hourRefusal h places
+  unfolding hourAnswer settledOf grantedHour refusedHour
+  refusal-is =
+      let k = hourRefusal h places in
+      by-test (eqb k 0) (λ (e : eqb k 0 ≡ true). rw e (sym (eqb-true k 0 e))) (λ (e : eqb k 0 ≡ false). rw e)
 
-module _ (powers frequencies : List ℤ) (t : Terms) (thresholds factors : List ℤ) (run : List ℕ) where
-  abbrev number : ℕ
-  number = hourRefusal powers frequencies (length run) t thresholds factors
+  -- refused terms refuse the hour
+  pub terms-refuse : (ofTerms h places ≡ 0 → ⊥) → hourRefusal h places ≡ ofTerms h places
+  terms-refuse n = readings-last h places ∙ or-first (ofReadings h) n
 
-  pub scores-granted : number ≡ 0 → scoresLeft powers frequencies t thresholds factors run ≡ scoresOf powers frequencies t
-  unfolding scoresLeft
-  scores-granted e = kept-new _ _ e
+pub scores-granted : (h : WholeHour) (run : List ℕ) → hourRefusal h (length run) ≡ 0 → scoresLeft h run ≡ scoresOf h
+unfolding scoresLeft
+scores-granted h run e = kept-new _ _ e
 
-  pub scores-refused : (number ≡ 0 → ⊥) → scoresLeft powers frequencies t thresholds factors run ≡ run
-  unfolding scoresLeft
-  scores-refused h = kept-old _ _ h
+pub scores-long : (h : WholeHour) (places : ℕ) → hourRefusal h places ≡ 0 → length (scoresOf h) ≡ secondsOfHour
+unfolding scoresOf runScores
+scores-long h places e = length-listed _ 0 (length (h .powers)) ∙ long (length (h .powers)) (length (h .frequencies)) places (fit h places e .lengths) .of-powers
+
+pub scores-refused : (h : WholeHour) (run : List ℕ) → (hourRefusal h (length run) ≡ 0 → ⊥) → scoresLeft h run ≡ run
+unfolding scoresLeft
+scores-refused h run n = kept-old _ _ n
+
+-- an hour whose terms are refused is answered their number, and leaves its run
+pub terms-refused : (h : WholeHour) (run : List ℕ) {k : ℕ} {r : Settlement} → k ≡ ofTerms h (length run) → (k ≡ 0 → ⊥) → r ≡ refusedHour k
+    → (r ≡ hourAnswer h (length run)) × (run ≡ scoresLeft h run)
+terms-refused h run e n answer =
+    let first = terms-refuse h (length run) (λ z. n (e ∙ z)) in
+    let some : (hourRefusal h (length run) ≡ 0 → ⊥) = λ z. n (e ∙ sym first ∙ z) in
+    (answer ∙ ap refusedHour (e ∙ sym first) ∙ sym (hour-refused h (length run) some), sym (scores-refused h run some))
+
+-- ---- an hour's amount lies far inside the ledger's range: the limits of its inputs see to it
+
+pub energy-small : (powers : List ℤ) (s : Service) → Within mostEnergyFee (energyOf powers s .0)
+energy-small powers dReg = omega arith
+energy-small powers (eDReg shift) = energy-within powers _ (shift .discharge) (shift .charge)
+
+pub amount-fits : (capacity performance : Dollars) (factor : ℤ) (energy : Dollars) → Within mostEnergyFee (energy .0)
+    → SFits w64 (qualityAnswer capacity performance factor .dollars .0 +ℤ energy .0)
+amount-fits capacity performance factor energy w = within-fits w64 tt (amount-within capacity performance factor energy w)
+
+pub hour-within : (h : WholeHour) (places : ℕ) → Within mostHourAmount (hourAnswer h places .amount .0)
+unfolding hourAnswer settledOf grantedHour refusedHour
+hour-within h places =
+    kept-any (λ (r : Settlement). Within mostHourAmount (r .amount .0)) (hourRefusal h places)
+    (λ e. amount-within _ _ _ (energyOf (h .powers) (h .service)) (energy-small (h .powers) (h .service))) (omega arith)
+
+pub hour-posts : (h : WholeHour) (places : ℕ) → isAmount (hourAnswer h places .amount .0) ≡ true
+hour-posts h places = let w = hour-within h places in within-in {k = mostAmount} (omega arith)

@@ -1,7 +1,7 @@
--- What belongs to no one function.
+-- What belongs to no one function; `pub` is what crates above cite.
 pub mod Laws
+pub mod Calls
 pub mod Accepted
-pub mod SameNumbers
+pub mod Without
 mod Determined
 mod RefusedKeeps
-pub mod Demand

@@ -5,34 +5,42 @@ use mathlib.Core.Path.{_≡_}
 use mathlib.Core.List.{List, []}
 use lib.IntN.{ℤ, pos, _+ℤ_}
 use lib.ListN.{length, getD}
+use Rattle.units.specs.Limits.{secondsOfHour}
 use Rattle.curve.specs.Curve.{upperAt, lowerAt}
 use Rattle.ramp.specs.Ramp.{transferAt}
 use Rattle.score.specs.Score.{percentOutput, scoreOf}
-use Rattle.score.specs.Rolling.{rolling, smallest}
-use Rattle.bands.specs.Bands.{placeOf}
+use Rattle.rate.specs.Rolling.{rolling, smallest}
+use Rattle.bands.specs.Bands.{firstPlace}
 use Rattle.fees.specs.Fees.{fee, qualityPart, energyFee}
-use Rattle.hour.specs.Hour.{quarters}
-use Rattle.hour.specs.declared.Terms.{Terms}
+use Rattle.hour.specs.Hour.{Service, dReg, eDReg, WholeHour, quarters}
 use Rattle.hour.specs.declared.Settlement.{Settlement}
 
-pub record Accepted (powers frequencies : List ℤ) (t : Terms) (thresholds factors : List ℤ) (scores : List ℕ) (r : Settlement) : Type 0 where
+-- the transfer of second i + 1: none for dReg, what its quarter's ramp plans for E-dReg
+abbrev pub transferIn : Service → ℕ → ℤ
+transferIn dReg i = pos 0
+transferIn (eDReg shift) i = transferAt (shift .targets) i
+
+abbrev pub energyIn : List ℤ → Service → ℤ
+energyIn powers dReg = pos 0
+energyIn powers (eDReg shift) = energyFee powers (quarters shift) (shift .discharge) (shift .charge)
+
+pub record Accepted (h : WholeHour) (scores : List ℕ) (r : Settlement) : Type 0 where
   -- an hour has 3,600 scores
-  pub seconds : length scores ≡ 3600
-  -- each is the score of the percent output of its second, less the transfer that its quarter's ramp plans, by the bounds of the frequency of the
-  -- second before
-  pub score : (i : ℕ) → i < 3600
-      → getD scores i 0
-      ≡ scoreOf (percentOutput (getD powers i (pos 0)) (transferAt (t .targets) i) (t .capacity .0)) (upperAt (getD frequencies i (pos 0))) (lowerAt (getD frequencies i (pos 0)))
+  pub seconds : length scores ≡ secondsOfHour
+  -- each is the score of the percent output of its second, less its transfer, by the bounds of the frequency of the second before
+  pub score : (i : ℕ) → i < secondsOfHour →
+      let frequency = getD (h .frequencies) i (pos 0) in
+      getD scores i 0 ≡ scoreOf (percentOutput (getD (h .powers) i (pos 0)) (transferIn (h .service) i) (h .terms .capacity .0)) (upperAt frequency) (lowerAt frequency)
   -- the hourly rate is the smallest rolling rate
   pub rate : r .rate ≡ smallest (rolling [] scores)
   -- the factor is that of the first record whose threshold is at most the rate
-  pub factor : r .factor ≡ getD factors (placeOf thresholds (pos (r .rate))) (pos 0)
+  pub factor : r .factor ≡ getD (h .factors) (firstPlace (h .thresholds) (pos (r .rate))) (pos 0)
   -- the two fees, each rounded to the dollar
-  pub capacity : r .capacity .0 ≡ fee (t .clearing) (t .capacity .0)
-  pub performance : r .performance .0 ≡ fee (t .performance) (t .capacity .0)
+  pub capacity : r .capacity .0 ≡ fee (h .terms .clearing) (h .terms .capacity .0)
+  pub performance : r .performance .0 ≡ fee (h .terms .performance) (h .terms .capacity .0)
   -- the quality part of both rounded fees
   pub quality : r .quality .0 ≡ qualityPart (r .capacity .0) (r .performance .0) (r .factor)
-  -- the energy service fee of the four quarters
-  pub energy : r .energy .0 ≡ energyFee powers (quarters t) (t .discharge) (t .charge)
+  -- the energy service fee of the four quarters, none for dReg
+  pub energy : r .energy .0 ≡ energyIn (h .powers) (h .service)
   -- and the amount
   pub amount : r .amount .0 ≡ r .quality .0 +ℤ r .energy .0

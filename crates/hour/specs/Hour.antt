@@ -1,79 +1,121 @@
 -- A whole hour (document 01, "A second's score, an hour's rate", "Fees of one hour"): its refusals in order, its scores, its rate, its fees and its
--- amount, made of the parts' own answers. A dReg hour is an E-dReg hour without transfer and energy.
+-- amount, made of the parts' own answers. dReg and E-dReg differ in the transfers and the energy service fee alone.
 use Prim.Native.Nat.{ℕ}
-use mathlib.Core.Bool.{Bool, _&&_}
-use mathlib.Core.List.{List}
+use mathlib.Core.Bool.{Bool, true, _&&_}
+use mathlib.Core.List.{List, [], _∷_, _++_}
 use lib.Dec.{eqb}
 use lib.IntN.{ℤ, pos, _+ℤ_}
-use lib.ListN.{length, getD, take, drop, replicate}
-use Rattle.whole.specs.Choice.{pick, unless, orElse, kept}
-use Rattle.whole.specs.Runs.{listed}
-use Rattle.whole.specs.Whole.{minus, allInRange}
-use Rattle.units.specs.Refusals.{wrongLength, badCapacity, badMoney, badTransfer, badReading}
-use Rattle.units.specs.declared.Kilowatts.{Kilowatts}
+use lib.ListN.{length, take, drop, replicate}
+use Rattle.whole.specs.Choice.{inOrder, kept}
+use Rattle.units.specs.Refusals.{wrongLength, badCapacity, badMoney, badBands, badTransfer, badReading}
+use Rattle.units.specs.Limits.{isCapacity, isPrice, arePowers, areFrequencies, areTransfers, secondsOfHour}
+use Rattle.units.specs.Units.{dollars}
 use Rattle.units.specs.declared.Dollars.{Dollars}
-use Rattle.ramp.specs.Ramp.{transferAt}
-use Rattle.bands.specs.Bands.{bandsRefusal, factorAnswer}
-use Rattle.score.specs.Score.{isCapacity, secondScore}
-use Rattle.score.specs.Rolling.{hourlyRate}
-use Rattle.fees.specs.Fees.{isPrice, feeAnswer, qualityAnswer, energyAnswer}
+use Rattle.ramp.specs.Ramp.{planOf}
+use Rattle.bands.specs.Bands.{bandsFit, factorAnswer}
+use Rattle.score.specs.Run.{runScores}
+use Rattle.rate.specs.Rolling.{hourlyRate}
+use Rattle.fees.specs.Fees.{feeAnswer, qualityAnswer, energyAnswer}
 use Rattle.hour.specs.declared.Terms.{Terms}
+use Rattle.hour.specs.declared.Shift.{Shift}
 use Rattle.hour.specs.declared.Settlement.{Settlement}
+
+-- ---- what is handed in
+
+pub data Service : Type 0 where
+  dReg : Service
+  eDReg : Shift → Service
+
+-- "The power of second t is judged by the frequency of second t-1": the powers are those of seconds 1 to 3,600 and the frequencies those of
+-- seconds 0 to 3,599, so that the two stand at one place
+pub record WholeHour : Type 0 where
+  pub powers : List ℤ
+  pub frequencies : List ℤ
+  pub terms : Terms
+  pub service : Service
+  pub thresholds : List ℤ
+  pub factors : List ℤ
+
+abbrev pub dRegHour : List ℤ → List ℤ → Terms → List ℤ → List ℤ → WholeHour
+dRegHour powers frequencies terms thresholds factors =
+    record { powers = powers; frequencies = frequencies; terms = terms; service = dReg; thresholds = thresholds; factors = factors }
+
+abbrev pub eDRegHour : List ℤ → List ℤ → Terms → Shift → List ℤ → List ℤ → WholeHour
+eDRegHour powers frequencies terms shift thresholds factors =
+    record { powers = powers; frequencies = frequencies; terms = terms; service = eDReg shift; thresholds = thresholds; factors = factors }
+
+-- ---- what the two differ in
+
+-- "for dReg the transfer is 0"; an E-dReg hour's are the ramps of its targets
+unfoldable pub transfersOf : Service → List ℤ
+transfersOf dReg = replicate secondsOfHour (pos 0)
+transfersOf (eDReg shift) = planOf (shift .targets)
+
+-- the targets of the four quarters
+abbrev pub quarters : Shift → List ℤ
+quarters shift = take 4 (drop 1 (shift .targets))
+
+-- "Energy service fee, E-dReg only"
+abbrev pub energyOf : List ℤ → Service → Dollars
+energyOf powers dReg = dollars (pos 0)
+energyOf powers (eDReg shift) = energyAnswer powers (quarters shift) (shift .discharge) (shift .charge) .dollars
+
+abbrev pub energyPricesFit : Service → Bool
+energyPricesFit dReg = true
+energyPricesFit (eDReg shift) = isPrice (shift .discharge) && isPrice (shift .charge)
+
+abbrev pub targetsFit : Service → Bool
+targetsFit dReg = true
+targetsFit (eDReg shift) = areTransfers (shift .targets)
 
 -- ---- the refusals: 1, 2, 3, 5, 10, 4
 
 -- an hour is 3,600 powers, 3,600 frequencies and a run of 3,600 scores
 abbrev pub lengthsFit : ℕ → ℕ → ℕ → Bool
-lengthsFit powers frequencies places = eqb powers 3600 && eqb frequencies 3600 && eqb places 3600
-
-abbrev pub pricesFit : Terms → Bool
-pricesFit t = isPrice (t .clearing) && isPrice (t .performance) && isPrice (t .discharge) && isPrice (t .charge)
+lengthsFit powers frequencies places = eqb powers secondsOfHour && eqb frequencies secondsOfHour && eqb places secondsOfHour
 
 abbrev pub readingsFit : List ℤ → List ℤ → Bool
-readingsFit powers frequencies = allInRange (minus 200000) (pos 200000) powers && allInRange (pos 55000) (pos 65000) frequencies
+readingsFit powers frequencies = arePowers powers && areFrequencies frequencies
 
-unfoldable pub hourRefusal : List ℤ → List ℤ → ℕ → Terms → List ℤ → List ℤ → ℕ
-hourRefusal powers frequencies places t thresholds factors =
-    unless (lengthsFit (length powers) (length frequencies) places) wrongLength
-    (unless (isCapacity (t .capacity .0)) badCapacity
-    (unless (pricesFit t) badMoney
-    (orElse (bandsRefusal thresholds factors)
-    (unless (allInRange (minus 100000) (pos 100000) (t .targets)) badTransfer
-    (unless (readingsFit powers frequencies) badReading 0)))))
+-- all but the readings': 1, 2, 3, 5, 10
+abbrev pub termsTests : ℕ → ℕ → ℕ → Terms → List ℤ → List ℤ → Bool → Bool → List (Bool × ℕ)
+termsTests powers frequencies places terms thresholds factors priced planned =
+    (lengthsFit powers frequencies places, wrongLength)
+    ∷ (isCapacity (terms .capacity .0), badCapacity)
+    ∷ (isPrice (terms .clearing) && isPrice (terms .performance) && priced, badMoney)
+    ∷ (bandsFit thresholds factors, badBands)
+    ∷ (planned, badTransfer)
+    ∷ []
 
--- all of them but the readings': 1, 2, 3, 5, 10
-unfoldable pub termsRefusal : ℕ → ℕ → ℕ → Terms → List ℤ → List ℤ → ℕ
-termsRefusal powers frequencies places t thresholds factors =
-    unless (lengthsFit powers frequencies places) wrongLength
-    (unless (isCapacity (t .capacity .0)) badCapacity
-    (unless (pricesFit t) badMoney
-    (orElse (bandsRefusal thresholds factors)
-    (unless (allInRange (minus 100000) (pos 100000) (t .targets)) badTransfer 0))))
+abbrev pub testsOf : WholeHour → ℕ → List (Bool × ℕ)
+testsOf h places =
+    termsTests (length (h .powers)) (length (h .frequencies)) places (h .terms) (h .thresholds) (h .factors) (energyPricesFit (h .service)) (targetsFit (h .service))
+
+unfoldable pub termsRefusal : ℕ → ℕ → ℕ → Terms → List ℤ → List ℤ → Bool → Bool → ℕ
+termsRefusal powers frequencies places terms thresholds factors priced planned =
+    inOrder (termsTests powers frequencies places terms thresholds factors priced planned)
+
+-- and then the readings': 4
+abbrev pub readingsTests : WholeHour → List (Bool × ℕ)
+readingsTests h = (readingsFit (h .powers) (h .frequencies), badReading) ∷ []
+
+-- of the lent run only its number of places matters
+unfoldable pub hourRefusal : WholeHour → ℕ → ℕ
+hourRefusal h places = inOrder (testsOf h places ++ readingsTests h)
 
 -- ---- the scores
 
--- the second at place i: "The power of second t is judged by the frequency of second t-1". Powers are those of seconds 1 to 3,600 and
--- frequencies those of 0 to 3,599, so the two stand at one place.
-unfoldable pub scoreAt : List ℤ → List ℤ → Terms → ℕ → ℕ
-scoreAt powers frequencies t i =
-    secondScore (record { 0 = getD powers i (pos 0) }) (record { 0 = transferAt (t .targets) i }) (t .capacity) (record { 0 = getD frequencies i (pos 0) }) .score
-
-unfoldable pub scoresOf : List ℤ → List ℤ → Terms → List ℕ
-scoresOf powers frequencies t = listed (scoreAt powers frequencies t) 0 3600
+unfoldable pub scoresOf : WholeHour → List ℕ
+scoresOf h = runScores (h .powers) (h .frequencies) (transfersOf (h .service)) (h .terms .capacity)
 
 -- what an hour leaves in the lent run
-unfoldable pub scoresLeft : List ℤ → List ℤ → Terms → List ℤ → List ℤ → List ℕ → List ℕ
-scoresLeft powers frequencies t thresholds factors run =
-    kept (hourRefusal powers frequencies (length run) t thresholds factors) (scoresOf powers frequencies t) run
+unfoldable pub scoresLeft : WholeHour → List ℕ → List ℕ
+scoresLeft h run = kept (hourRefusal h (length run)) (scoresOf h) run
 
 -- ---- the answer
 
--- the targets of the four quarters
-abbrev pub quarters : Terms → List ℤ
-quarters t = take 4 (drop 1 (t .targets))
-
-unfoldable pub answerOf : ℕ → ℤ → Dollars → Dollars → Dollars → Dollars → Dollars → Settlement
-answerOf rate factor capacity performance quality energy amount =
+unfoldable pub grantedHour : ℕ → ℤ → Dollars → Dollars → Dollars → Dollars → Dollars → Settlement
+grantedHour rate factor capacity performance quality energy amount =
     record {
       refusal = 0;
       rate = rate;
@@ -85,37 +127,34 @@ answerOf rate factor capacity performance quality energy amount =
       amount = amount;
     }
 
-unfoldable pub refusedOf : ℕ → Settlement
-refusedOf k =
+unfoldable pub refusedHour : ℕ → Settlement
+refusedHour k =
     record {
       refusal = k;
       rate = 0;
       factor = pos 0;
-      capacity = record { 0 = pos 0 };
-      performance = record { 0 = pos 0 };
-      quality = record { 0 = pos 0 };
-      energy = record { 0 = pos 0 };
-      amount = record { 0 = pos 0 };
+      capacity = dollars (pos 0);
+      performance = dollars (pos 0);
+      quality = dollars (pos 0);
+      energy = dollars (pos 0);
+      amount = dollars (pos 0);
     }
 
--- an hour by its scores. "Amount: quality part plus energy service fee."
-unfoldable pub settledOf : List ℤ → Terms → List ℤ → List ℤ → List ℕ → Settlement
-settledOf powers t thresholds factors scores =
+-- an hour by its energy service fee and its scores. "Amount: quality part plus energy service fee."
+unfoldable pub settledOf : Terms → List ℤ → List ℤ → Dollars → List ℕ → Settlement
+settledOf terms thresholds factors energy scores =
     let rate = hourlyRate scores .rate in
     let factor = factorAnswer thresholds factors rate .factor in
-    let capacity = feeAnswer (t .clearing) (t .capacity) .dollars in
-    let performance = feeAnswer (t .performance) (t .capacity) .dollars in
-    let energy = energyAnswer powers (quarters t) (t .discharge) (t .charge) .dollars in
+    let capacity = feeAnswer (terms .clearing) (terms .capacity) .dollars in
+    let performance = feeAnswer (terms .performance) (terms .capacity) .dollars in
     let quality = qualityAnswer capacity performance factor .dollars in
-    answerOf rate factor capacity performance quality energy (record { 0 = quality .0 +ℤ energy .0 })
+    grantedHour rate factor capacity performance quality energy (dollars (quality .0 +ℤ energy .0))
 
--- the hour call's answer; of the lent run only its number of places matters
-unfoldable pub hourOf : List ℤ → List ℤ → ℕ → Terms → List ℤ → List ℤ → Settlement
-hourOf powers frequencies places t thresholds factors =
-    let k = hourRefusal powers frequencies places t thresholds factors in
-    pick (eqb k 0) (settledOf powers t thresholds factors (scoresOf powers frequencies t)) (refusedOf k)
+unfoldable pub hourAnswer : WholeHour → ℕ → Settlement
+hourAnswer h places =
+    let k = hourRefusal h places in
+    kept k (settledOf (h .terms) (h .thresholds) (h .factors) (energyOf (h .powers) (h .service)) (scoresOf h)) (refusedHour k)
 
--- dReg: "the transfer is 0"; the energy service fee is "E-dReg only"
-unfoldable pub dRegTerms : Kilowatts → ℤ → ℤ → Terms
-dRegTerms capacity clearing performance =
-    record { capacity = capacity; clearing = clearing; performance = performance; discharge = pos 0; charge = pos 0; targets = replicate 5 (pos 0) }
+-- an E-dReg hour that shifts nothing
+abbrev pub noShift : Shift
+noShift = record { discharge = pos 0; charge = pos 0; targets = replicate 5 (pos 0) }

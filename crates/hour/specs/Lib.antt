@@ -1,4 +1,4 @@
--- The hour, and the joint call.
+-- The hour.
 pub mod Hour
 pub mod Accepted
-pub mod Joint
+pub mod Inner

@@ -1,31 +1,36 @@
-// The hour: its refusals in order, its scores, its rate and its fees; and the joint call that posts its amount. It stands above the ledger and
-// uses the ledger's contracts only.
+// The hour, dReg or E-dReg: its refusals in order, its scores, its rate and its fees.
 ghost use mathlib.Core.Path.{_≡_};
-ghost use mathlib.Core.Bool.{true};
-ghost use lib.IntN.{pos, _+ℤ_};
+ghost use mathlib.Core.Bool.{true, _&&_};
+ghost use lib.IntN.{_+ℤ_};
 ghost use lib.ListN.{length, take, drop};
 ghost use mir.Syntax.{w64};
 ghost use mir.Val.{SFits};
-ghost use Rattle.whole.specs.Choice.{unless, kept};
-ghost use Rattle.whole.specs.Whole.{minus, allInRange};
-ghost use Rattle.units.specs.Refusals.{badReading};
-ghost use Rattle.fees.specs.Fees.{feeAnswer, qualityAnswer, energyAnswer};
+ghost use Rattle.whole.specs.Whole.{Within};
+ghost use Rattle.units.specs.Limits.{isCapacity, isPrice};
+ghost use Rattle.units.specs.Units.{dollars};
+ghost use Rattle.fees.specs.Fees.{feeAnswer, qualityAnswer, energyAnswer, mostEnergyFee};
 ghost use Rattle.bands.specs.Bands.{factorAnswer};
-ghost use Rattle.score.specs.Score.{isCapacity};
-ghost use Rattle.score.specs.Rolling.{hourlyRate};
-ghost use Rattle.hour.specs.Hour.{lengthsFit, pricesFit, readingsFit, termsRefusal, scoresOf, scoresLeft, answerOf, refusedOf, settledOf, hourOf, dRegTerms};
-ghost use Rattle.hour.specs.Joint.{joined, postedOf, jointOf};
-use month::Month;
+ghost use Rattle.ramp.specs.Ramp.{planOf};
+ghost use Rattle.score.specs.Run.{runLeft};
+ghost use Rattle.rate.specs.Rolling.{hourlyRate};
+ghost use Rattle.hour.specs.Hour.{eDReg, dRegHour, eDRegHour, energyOf, energyPricesFit, targetsFit, lengthsFit, termsRefusal, scoresLeft, grantedHour, refusedHour, settledOf, hourAnswer};
+ghost use Rattle.hour.specs.Inner.{workedOf};
 use units::Dollars;
 use units::Kilowatts;
+use units::limits;
 use units::refusals;
 
-// What an hour is settled by, besides its readings and the bands. Prices are hundredths of a dollar; the targets, in kW, are the one before the
-// hour and those of its four quarters.
+const LEAST_TRANSFER: i64 = -limits::TRANSFER;
+
+// What an hour is settled by, besides its readings and the bands. Prices are hundredths of a dollar.
 pub struct Terms {
     pub capacity: Kilowatts,
     pub clearing: i64,
     pub performance: i64,
+}
+
+// What an E-dReg hour has besides: the prices of its energy, and the target before the hour and those of its four quarters, in kW.
+pub struct Shift {
     pub discharge: i64,
     pub charge: i64,
     pub targets: [i64; 5],
@@ -43,16 +48,10 @@ pub struct Settlement {
     pub amount: Dollars,
 }
 
-// The hour's numbers, its refusal first, and the ledger after it.
-pub struct Joined {
-    pub hour: Settlement,
-    pub month: Month,
-}
-
 fn lengths_fit(powers: usize, frequencies: usize, places: usize) -> bool
     ensures { λ r. ⌜ r ≡ lengthsFit powers frequencies places ⌝ }
 {
-    (powers == 3600) & (frequencies == 3600) & (places == 3600)
+    (powers == limits::SECONDS) & (frequencies == limits::SECONDS) & (places == limits::SECONDS)
 }
 
 fn capacity_fits(terms: Terms) -> bool
@@ -60,23 +59,16 @@ fn capacity_fits(terms: Terms) -> bool
 {
     let capacity = terms.capacity;
     let size = capacity.0;
-    whole::within(size, 1, 100_000)
+    whole::within(size, 1, limits::CAPACITY)
 }
 
-fn prices_fit(terms: Terms) -> bool
-    ensures { λ r. ⌜ r ≡ pricesFit terms ⌝ }
+fn prices_fit(first: i64, second: i64) -> bool
+    ensures { λ r. ⌜ r ≡ (isPrice first && isPrice second) ⌝ }
 {
-    let clearing = terms.clearing;
-    let performance = terms.performance;
-    let discharge = terms.discharge;
-    let charge = terms.charge;
-    whole::within(clearing, 0, 10_000_000)
-        & whole::within(performance, 0, 10_000_000)
-        & whole::within(discharge, 0, 10_000_000)
-        & whole::within(charge, 0, 10_000_000)
+    whole::within(first, 0, limits::PRICE) & whole::within(second, 0, limits::PRICE)
 }
 
-// 1, 2, 3, 5, 10; the readings are tested where they are scored.
+// 1, 2, 3, 5, 10; the readings are tested where they are scored. `priced` and `planned` are the tests of what is shifted.
 fn refusal(
     powers: usize,
     frequencies: usize,
@@ -84,34 +76,51 @@ fn refusal(
     terms: Terms,
     thresholds: &[i64],
     factors: &[i64],
+    priced: bool,
+    planned: bool,
 ) -> u8
-    ensures { λ r. ⌜ r ≡ termsRefusal powers frequencies places terms (now (thresholds .entry)) (now (factors .entry)) ⌝ }
+    ensures { λ r. ⌜ r ≡ termsRefusal powers frequencies places terms (now (thresholds .entry)) (now (factors .entry)) priced planned ⌝ }
 {
-    let transfers = whole::all_within(&terms.targets, -100_000, 100_000);
-    let targets = whole::unless(transfers, refusals::BAD_TRANSFER, 0);
-    let bands = whole::or_else(bands::check(thresholds, factors), targets);
-    let prices = whole::unless(prices_fit(terms), refusals::BAD_MONEY, bands);
+    let targets = whole::unless(planned, refusals::BAD_TRANSFER, 0);
+    let banded = bands::check(thresholds, factors) == 0;
+    let bands = whole::unless(banded, refusals::BAD_BANDS, targets);
+    let money = prices_fit(terms.clearing, terms.performance) & priced;
+    let prices = whole::unless(money, refusals::BAD_MONEY, bands);
     let capacity = whole::unless(capacity_fits(terms), refusals::BAD_CAPACITY, prices);
     let lengths = lengths_fit(powers, frequencies, places);
     whole::unless(lengths, refusals::WRONG_LENGTH, capacity)
 }
 
-// Fills the run with the hour's scores, or answers 4 and leaves it as it was.
-fn fill(powers: &[i64], frequencies: &[i64], terms: Terms, scores: &mut [u8]) -> u8
-    requires { ⌜ lengthsFit (length (now powers)) (length (now frequencies)) (length (now scores)) ≡ true ⌝ }
-    requires { ⌜ (isCapacity (terms .capacity .0) ≡ true) × (allInRange (minus 100000) (pos 100000) (terms .targets) ≡ true) ⌝ }
-    ensures number { λ r. ⌜ r ≡ unless (readingsFit (now (powers .entry)) (now (frequencies .entry))) badReading 0 ⌝ }
-    ensures leaves { λ r. ⌜ now (scores .exit) ≡ kept (unless (readingsFit (now (powers .entry)) (now (frequencies .entry))) badReading 0) (scoresOf (now (powers .entry)) (now (frequencies .entry)) terms) (now (scores .entry)) ⌝ }
+// `refusal`, with what is shifted.
+fn shift_refusal(
+    powers: usize,
+    frequencies: usize,
+    places: usize,
+    terms: Terms,
+    shift: Shift,
+    thresholds: &[i64],
+    factors: &[i64],
+) -> u8
+    ensures { λ r. ⌜ r ≡ termsRefusal powers frequencies places terms (now (thresholds .entry)) (now (factors .entry)) (energyPricesFit (eDReg shift)) (targetsFit (eDReg shift)) ⌝ }
 {
-    let mut transfers = [0i64; 3600];
-    ramp::plan(&terms.targets, &mut transfers);
-    score::run_scores(powers, frequencies, &transfers, terms.capacity, scores)
+    let priced = prices_fit(shift.discharge, shift.charge);
+    let planned = whole::all_within(&shift.targets, LEAST_TRANSFER, limits::TRANSFER);
+    refusal(
+        powers,
+        frequencies,
+        places,
+        terms,
+        thresholds,
+        factors,
+        priced,
+        planned,
+    )
 }
 
 fn rate_of(scores: &[u8]) -> u8
     ensures { λ r. ⌜ r ≡ hourlyRate (now (scores .entry)) .rate ⌝ }
 {
-    let rated = score::hourly_rate(scores);
+    let rated = rate::hourly_rate(scores);
     rated.rate
 }
 
@@ -137,21 +146,18 @@ fn quality_of(capacity: Dollars, performance: Dollars, factor: i64) -> Dollars
     charged.dollars
 }
 
-// The quarters' targets are the last four of the five. At prices of 0 there is nothing to work out.
+// The quarters' targets are the last four of the five.
 fn energy_of(powers: &[i64], targets: &[i64], discharge: i64, charge: i64) -> Dollars
     requires { ⌜ length (now targets) ≡ 5 ⌝ }
     ensures { λ r. ⌜ r ≡ energyAnswer (now (powers .entry)) (take 4 (drop 1 (now (targets .entry)))) discharge charge .dollars ⌝ }
 {
-    if (discharge == 0) & (charge == 0) {
-        return Dollars(0);
-    }
     let charged = fees::energy_fee(powers, &targets[1..5], discharge, charge);
     charged.dollars
 }
 
 fn plus(quality: Dollars, energy: Dollars) -> Dollars
     requires { ⌜ SFits w64 (quality .0 +ℤ energy .0) ⌝ }
-    ensures { λ r. ⌜ r ≡ record { 0 = quality .0 +ℤ energy .0 } ⌝ }
+    ensures { λ r. ⌜ r ≡ dollars (quality .0 +ℤ energy .0) ⌝ }
 {
     let part = quality.0;
     let service = energy.0;
@@ -159,7 +165,7 @@ fn plus(quality: Dollars, energy: Dollars) -> Dollars
 }
 
 // The answer of an hour that is not refused.
-fn answer(
+fn granted_hour(
     rate: u8,
     factor: i64,
     capacity: Dollars,
@@ -168,7 +174,7 @@ fn answer(
     energy: Dollars,
     amount: Dollars,
 ) -> Settlement
-    ensures { λ r. ⌜ r ≡ answerOf rate factor capacity performance quality energy amount ⌝ }
+    ensures { λ r. ⌜ r ≡ grantedHour rate factor capacity performance quality energy amount ⌝ }
 {
     Settlement {
         refusal: 0,
@@ -182,12 +188,13 @@ fn answer(
     }
 }
 
-fn refused(k: u8) -> Settlement
-    ensures { λ r. ⌜ r ≡ refusedOf k ⌝ }
+// A refused hour, for the joint call too: its number, and zeros.
+pub fn refused_hour(number: u8) -> Settlement
+    ensures { λ r. ⌜ r ≡ refusedHour number ⌝ }
 {
     let nothing = Dollars(0);
     Settlement {
-        refusal: k,
+        refusal: number,
         rate: 0,
         factor: 0,
         capacity: nothing,
@@ -200,23 +207,21 @@ fn refused(k: u8) -> Settlement
 
 // The rate, the factor and the fees of an hour by its scores.
 fn settled(
-    powers: &[i64],
     terms: Terms,
     thresholds: &[i64],
     factors: &[i64],
+    energy: Dollars,
     scores: &[u8],
 ) -> Settlement
-    ensures { λ r. ⌜ r ≡ settledOf (now (powers .entry)) terms (now (thresholds .entry)) (now (factors .entry)) (now (scores .entry)) ⌝ }
+    requires { ⌜ Within mostEnergyFee (energy .0) ⌝ }
+    ensures { λ r. ⌜ r ≡ settledOf terms (now (thresholds .entry)) (now (factors .entry)) energy (now (scores .entry)) ⌝ }
 {
     let rate = rate_of(scores);
     let factor = factor_of(thresholds, factors, rate);
     let capacity = fee_of(terms.clearing, terms.capacity);
     let performance = fee_of(terms.performance, terms.capacity);
-    let discharge = terms.discharge;
-    let charge = terms.charge;
-    let energy = energy_of(powers, &terms.targets, discharge, charge);
     let quality = quality_of(capacity, performance, factor);
-    answer(
+    granted_hour(
         rate,
         factor,
         capacity,
@@ -227,8 +232,61 @@ fn settled(
     )
 }
 
-// An E-dReg hour: its settlement, and its scores in the lent run; or its refusal, and the run as it was.
-pub fn hour(
+// THE CORE of both hours: the scores by the transfers, and the settlement by the scores; or the readings' refusal, and the run as it was.
+fn worked(
+    powers: &[i64],
+    frequencies: &[i64],
+    transfers: &[i64],
+    terms: Terms,
+    thresholds: &[i64],
+    factors: &[i64],
+    energy: Dollars,
+    scores: &mut [u8],
+) -> Settlement
+    requires { ⌜ Within mostEnergyFee (energy .0) ⌝ }
+    ensures answers { λ r. ⌜ r ≡ workedOf (now (powers .entry)) (now (frequencies .entry)) (now (transfers .entry)) terms (now (thresholds .entry)) (now (factors .entry)) energy (length (now (scores .entry))) ⌝ }
+    ensures leaves { λ r. ⌜ now (scores .exit) ≡ runLeft (now (powers .entry)) (now (frequencies .entry)) (now (transfers .entry)) (terms .capacity) (now (scores .entry)) ⌝ }
+{
+    let number = score::run_scores(powers, frequencies, transfers, terms.capacity, scores);
+    if number != 0 {
+        return refused_hour(number);
+    }
+    settled(terms, thresholds, factors, energy, scores)
+}
+
+// `worked`, by the ramps of targets in their range.
+fn shifted(
+    powers: &[i64],
+    frequencies: &[i64],
+    terms: Terms,
+    shift: Shift,
+    thresholds: &[i64],
+    factors: &[i64],
+    scores: &mut [u8],
+) -> Settlement
+    requires { ⌜ targetsFit (eDReg shift) ≡ true ⌝ }
+    ensures answers { λ r. ⌜ r ≡ workedOf (now (powers .entry)) (now (frequencies .entry)) (planOf (shift .targets)) terms (now (thresholds .entry)) (now (factors .entry)) (energyOf (now (powers .entry)) (eDReg shift)) (length (now (scores .entry))) ⌝ }
+    ensures leaves { λ r. ⌜ now (scores .exit) ≡ runLeft (now (powers .entry)) (now (frequencies .entry)) (planOf (shift .targets)) (terms .capacity) (now (scores .entry)) ⌝ }
+{
+    let mut transfers = [0i64; limits::SECONDS];
+    ramp::plan(&shift.targets, &mut transfers);
+    let discharge = shift.discharge;
+    let charge = shift.charge;
+    let energy = energy_of(powers, &shift.targets, discharge, charge);
+    worked(
+        powers,
+        frequencies,
+        &transfers,
+        terms,
+        thresholds,
+        factors,
+        energy,
+        scores,
+    )
+}
+
+// A dReg hour: its settlement, and its scores in the lent run; or its refusal, and the run as it was. It transfers nothing and is paid no energy.
+pub fn dreg_hour(
     powers: &[i64],
     frequencies: &[i64],
     terms: Terms,
@@ -236,8 +294,8 @@ pub fn hour(
     factors: &[i64],
     scores: &mut [u8],
 ) -> Settlement
-    ensures answers { λ r. ⌜ r ≡ hourOf (now (powers .entry)) (now (frequencies .entry)) (length (now (scores .entry))) terms (now (thresholds .entry)) (now (factors .entry)) ⌝ }
-    ensures leaves { λ r. ⌜ now (scores .exit) ≡ scoresLeft (now (powers .entry)) (now (frequencies .entry)) terms (now (thresholds .entry)) (now (factors .entry)) (now (scores .entry)) ⌝ }
+    ensures answers { λ r. ⌜ r ≡ hourAnswer (dRegHour (now (powers .entry)) (now (frequencies .entry)) terms (now (thresholds .entry)) (now (factors .entry))) (length (now (scores .entry))) ⌝ }
+    ensures leaves { λ r. ⌜ now (scores .exit) ≡ scoresLeft (dRegHour (now (powers .entry)) (now (frequencies .entry)) terms (now (thresholds .entry)) (now (factors .entry))) (now (scores .entry)) ⌝ }
 {
     let k = refusal(
         powers.len(),
@@ -246,93 +304,58 @@ pub fn hour(
         terms,
         thresholds,
         factors,
+        true,
+        true,
     );
     if k != 0 {
-        return refused(k);
+        return refused_hour(k);
     }
-    let n = fill(powers, frequencies, terms, scores);
-    if n != 0 {
-        return refused(n);
-    }
-    settled(powers, terms, thresholds, factors, scores)
+    let transfers = [0i64; limits::SECONDS];
+    let energy = Dollars(0);
+    worked(
+        powers,
+        frequencies,
+        &transfers,
+        terms,
+        thresholds,
+        factors,
+        energy,
+        scores,
+    )
 }
 
-// The terms of a dReg hour, for the joint call too.
-pub fn dreg_terms(capacity: Kilowatts, clearing: i64, performance: i64) -> Terms
-    ensures { λ r. ⌜ r ≡ dRegTerms capacity clearing performance ⌝ }
-{
-    Terms {
-        capacity: capacity,
-        clearing: clearing,
-        performance: performance,
-        discharge: 0,
-        charge: 0,
-        targets: [0; 5],
-    }
-}
-
-// A dReg hour: no transfer, no energy service.
-pub fn dreg_hour(
+// An E-dReg hour, likewise: by the ramps of its targets, and with its energy service fee.
+pub fn hour(
     powers: &[i64],
     frequencies: &[i64],
-    capacity: Kilowatts,
-    clearing: i64,
-    performance: i64,
+    terms: Terms,
+    shift: Shift,
     thresholds: &[i64],
     factors: &[i64],
     scores: &mut [u8],
 ) -> Settlement
-    ensures answers { λ r. ⌜ r ≡ hourOf (now (powers .entry)) (now (frequencies .entry)) (length (now (scores .entry))) (dRegTerms capacity clearing performance) (now (thresholds .entry)) (now (factors .entry)) ⌝ }
-    ensures leaves { λ r. ⌜ now (scores .exit) ≡ scoresLeft (now (powers .entry)) (now (frequencies .entry)) (dRegTerms capacity clearing performance) (now (thresholds .entry)) (now (factors .entry)) (now (scores .entry)) ⌝ }
+    ensures answers { λ r. ⌜ r ≡ hourAnswer (eDRegHour (now (powers .entry)) (now (frequencies .entry)) terms shift (now (thresholds .entry)) (now (factors .entry))) (length (now (scores .entry))) ⌝ }
+    ensures leaves { λ r. ⌜ now (scores .exit) ≡ scoresLeft (eDRegHour (now (powers .entry)) (now (frequencies .entry)) terms shift (now (thresholds .entry)) (now (factors .entry))) (now (scores .entry)) ⌝ }
 {
-    let terms = dreg_terms(capacity, clearing, performance);
-    hour(powers, frequencies, terms, thresholds, factors, scores)
-}
-
-// The hour and the next ledger; where k refuses, k alone and the ledger as it was.
-fn join(k: u8, hour: Settlement, next: Month, month: Month) -> Joined
-    ensures { λ r. ⌜ r ≡ joined k hour next month ⌝ }
-{
-    if k == 0 {
-        return Joined {
-            hour: hour,
-            month: next,
-        };
+    let k = shift_refusal(
+        powers.len(),
+        frequencies.len(),
+        scores.len(),
+        terms,
+        shift,
+        thresholds,
+        factors,
+    );
+    if k != 0 {
+        return refused_hour(k);
     }
-    Joined {
-        hour: refused(k),
-        month: month,
-    }
-}
-
-// The hour's refusal, 16, the ledger's.
-fn posted(worked: Settlement, month: Month, day: u8, hour: u8) -> Joined
-    ensures { λ r. ⌜ r ≡ postedOf worked month day hour ⌝ }
-{
-    let amount = worked.amount;
-    let booked = month.post(day, hour, amount);
-    let size = amount.0;
-    let range = whole::within(size, Month::LEAST, Month::MOST);
-    let ledger = whole::unless(range, refusals::BAD_AMOUNT, booked.refusal);
-    let k = whole::or_else(worked.refusal, ledger);
-    let next = booked.month;
-    join(k, worked, next, month)
-}
-
-// Works an hour out and posts its amount.
-pub fn joint(
-    powers: &[i64],
-    frequencies: &[i64],
-    terms: Terms,
-    thresholds: &[i64],
-    factors: &[i64],
-    month: Month,
-    day: u8,
-    hour: u8,
-) -> Joined
-    ensures { λ r. ⌜ r ≡ jointOf (now (powers .entry)) (now (frequencies .entry)) terms (now (thresholds .entry)) (now (factors .entry)) month day hour ⌝ }
-{
-    let mut scores: [u8; 3600] = [0; 3600];
-    let worked = crate::hour(powers, frequencies, terms, thresholds, factors, &mut scores);
-    posted(worked, month, day, hour)
+    shifted(
+        powers,
+        frequencies,
+        terms,
+        shift,
+        thresholds,
+        factors,
+        scores,
+    )
 }

@@ -14,5 +14,5 @@ settle-determined κs a x y s t p q = p .0 ∙ sym (q .0)
 settle-scores-determined : LeftDetermined 3 settle-kinds.ps settle-kinds.r (λ κs s. now (s .1 .1 .1 .1 .0)) settle.Post
 settle-scores-determined κs a x y s t p q = p .1 ∙ sym (q .1)
 
-answer-determined : Determined 1 answer-kinds.ps answer-kinds.r answer.Post
+answer-determined : Determined 2 answer-kinds.ps answer-kinds.r answer.Post
 answer-determined κs a x y s t p q = p ∙ sym q

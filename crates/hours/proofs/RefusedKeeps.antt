@@ -1,30 +1,30 @@
 -- A refused hour has its number and zeros, and leaves the lent run of scores as it was. Assumes nothing.
-use mathlib.Core.Path.{_≡_, sym, ap, _∙_}
+use mathlib.Core.Path.{sym, ap, _∙_}
 use lib.IntN.{pos}
 use lib.ListN.{replicate}
 use denote.Ref.{now}
 use Rattle.whole.specs.Refused.{RefusedKeeps, RefusedBare}
 use Rattle.whole.proofs.Choice.{kept-old}
-use Rattle.hour.specs.Hour.{refusedOf}
+use Rattle.hour.specs.Hour.{refusedHour}
 use Rattle.hour.specs.declared.Settlement.{Settlement}
 use Rattle.words.specs.Replies.{reply, boxed}
 use Rattle.words.specs.declared.Few.{Few}
-use Rattle.hours.specs.Hours.{left, fieldsOf, hourReply}
+use Rattle.hours.specs.Hours.{scoresAfter, fieldsOf, hourReply}
 use Rattle.hours.proofs.HourLaws.{refused-is}
 use Rattle.hours.proofs.settle.Reads as settle
 use Rattle.hours.proofs.settle.Kinds as settle-kinds
 use Rattle.hours.proofs.answer.Reads as answer
 use Rattle.hours.proofs.answer.Kinds as answer-kinds
 
-settle-refused-keeps : RefusedKeeps 3 settle-kinds.ps settle-kinds.r (λ κs x. x .refusal) (λ κs a k. refusedOf k)
+settle-refused-keeps : RefusedKeeps 3 settle-kinds.ps settle-kinds.r (λ κs x. x .refusal) (λ κs a k. refusedHour k)
     (λ κs a. now (a .1 .1 .1 .1 .0)) (λ κs s. now (s .1 .1 .1 .1 .0)) settle.Post
-unfolding left
+unfolding scoresAfter
 settle-refused-keeps κs a x s p f =
     let k = ap (λ (y : Settlement). y .refusal) (p .0) in
-    (p .0 ∙ refused-is _ (λ z. f (k ∙ z)) ∙ sym (ap refusedOf k), p .1 ∙ kept-old _ _ (λ z. f (k ∙ z)))
+    (p .0 ∙ refused-is _ (λ z. f (k ∙ z)) ∙ sym (ap refusedHour k), p .1 ∙ kept-old _ _ (λ z. f (k ∙ z)))
 
-answer-refused-keeps : RefusedBare 1 answer-kinds.ps answer-kinds.r (λ κs x. x .refusal) (λ κs a k. boxed (reply k (replicate 7 (pos 0)))) answer.Post
-unfolding hourReply refusedOf
+answer-refused-keeps : RefusedBare 2 answer-kinds.ps answer-kinds.r (λ κs x. x .refusal) (λ κs a k. boxed (reply k (replicate 7 (pos 0)))) answer.Post
+unfolding hourReply refusedHour
 answer-refused-keeps κs a x s p f =
     let k = ap (λ (y : Few). y .refusal) p in
     p ∙ ap (λ (y : Settlement). boxed (fieldsOf y)) (refused-is _ (λ z. f (k ∙ z))) ∙ sym (ap (λ n. boxed (reply n (replicate 7 (pos 0)))) k)

@@ -1,2 +1,3 @@
 -- The questions about a whole hour.
+pub mod Inner
 pub mod Hours

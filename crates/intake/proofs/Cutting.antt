@@ -15,7 +15,7 @@ use Rattle.whole.proofs.Choice.{by-test}
 use Rattle.whole.proofs.Runs.{rest, no-rest}
 use Rattle.frame.specs.Frame.{lineRefusal, readRefusal, readingOf}
 use Rattle.intake.specs.Lines.{lineEnd, beforeEnd}
-use Rattle.intake.specs.Desk.{heldIn, emptyLine, pushed, keptIn, linesIn, leftIn}
+use Rattle.intake.specs.Inner.{heldIn, emptyLine, pushed, keptIn, linesIn, leftIn}
 use Rattle.intake.specs.declared.Line.{Line}
 
 -- ---- where a line ends

@@ -13,8 +13,9 @@ use lib.Seq.{drop-drop}
 use borrow.Rule.Slice.PartAt.{part-to-end}
 use Rattle.intake.specs.Lines.{beforeEnd}
 use Rattle.text.specs.Text.{put}
-use Rattle.intake.specs.Book.{Book, answerTo, bookAfter, answersTo, bookAfterAll}
-use Rattle.intake.specs.Desk.{heldIn, emptyLine, keptIn, linesIn, leftIn, lastIn}
+use Rattle.book.specs.Book.{Book}
+use Rattle.intake.specs.Answers.{answerTo, bookAfter, answersTo, bookAfterAll}
+use Rattle.intake.specs.Inner.{heldIn, emptyLine, keptIn, linesIn, leftIn, lastIn}
 use Rattle.intake.specs.declared.Line.{Line}
 use Rattle.text.proofs.Places.{put-put, put-nothing}
 use Rattle.intake.proofs.Cutting.{lines-cut, left-cut, lines-none, left-none, before-take}

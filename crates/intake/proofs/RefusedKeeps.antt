@@ -7,7 +7,7 @@ use lib.IntN.{ℤ}
 use denote.Ref.{now}
 use Rattle.whole.specs.Refused.{RefusedKeeps}
 use Rattle.whole.proofs.Refused.{refused-bare, refused-left}
-use Rattle.intake.specs.Desk.{fedNumber, endNumber, fedOf, fedMarks, fedAmounts, fedOut, finishedOf, endMarks, endAmounts, endOut}
+use Rattle.intake.specs.Inner.{fedNumber, endNumber, fedOf, fedMarks, fedAmounts, fedOut, finishedOf, endMarks, endAmounts, endOut}
 use Rattle.intake.specs.declared.Fed.{Fed}
 use Rattle.intake.specs.declared.Finished.{Finished}
 use Rattle.intake.proofs.feed.Reads as feed-reads

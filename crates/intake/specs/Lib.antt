@@ -1,6 +1,5 @@
--- The program `ledger`: from the lines of an input to the text that it prints.
+-- What the program does with its input.
 pub mod Lines
 pub mod Text
-pub mod Book
-pub mod Account
-pub mod Desk
+pub mod Answers
+pub mod Inner

@@ -6,8 +6,8 @@ use Rattle.text.specs.Text.{decimalOf, signedText}
 use Rattle.intake.specs.Lines.{lineEnd}
 
 -- "the line number, a space, and 0 or the refusal"
-unfoldable pub answerText : ℕ → ℕ → List ℕ
-answerText number refusal = decimalOf number ++ (32 ∷ (decimalOf refusal ++ (lineEnd ∷ [])))
+unfoldable pub verdictText : ℕ → ℕ → List ℕ
+verdictText number refusal = decimalOf number ++ (32 ∷ (decimalOf refusal ++ (lineEnd ∷ [])))
 
 abbrev pub totalWord : List ℕ
 totalWord = 116 ∷ 111 ∷ 116 ∷ 97 ∷ 108 ∷ 32 ∷ []

@@ -3,7 +3,7 @@ ghost use Prim.Native.Nat.{_+_, _≤_, _<_, min};
 ghost use mathlib.Core.Path.{_≡_};
 ghost use lib.ListN.{length, drop};
 ghost use Rattle.intake.specs.Lines.{beforeEnd};
-ghost use Rattle.intake.specs.Desk.{emptyLine, pushed, keptIn};
+ghost use Rattle.intake.specs.Inner.{emptyLine, pushed, keptIn};
 use crate::Line;
 
 // A line with no byte yet.

@@ -3,13 +3,13 @@ ghost use Prim.Native.Nat.{_+_, _≤_};
 ghost use mathlib.Core.Path.{_≡_};
 ghost use lib.ListN.{length};
 ghost use Rattle.text.specs.Text.{put};
-ghost use Rattle.intake.specs.Text.{answerText, totalText};
+ghost use Rattle.intake.specs.Text.{verdictText, totalText};
 
 // A line's number and its refusal.
 pub(crate) fn put_answer(out: &mut [u8], at: usize, number: u64, refusal: u8) -> usize
-    requires { ⌜ at + length (answerText number refusal) ≤ length (now out) ⌝ }
-    ensures place { λ r. ⌜ r ≡ at + length (answerText number refusal) ⌝ }
-    ensures text { λ r. ⌜ now (out .exit) ≡ put (now (out .entry)) at (answerText number refusal) ⌝ }
+    requires { ⌜ at + length (verdictText number refusal) ≤ length (now out) ⌝ }
+    ensures place { λ r. ⌜ r ≡ at + length (verdictText number refusal) ⌝ }
+    ensures text { λ r. ⌜ now (out .exit) ≡ put (now (out .entry)) at (verdictText number refusal) ⌝ }
 {
     let a = text::put_decimal(out, at, number);
     let b = text::put(out, a, b" ");

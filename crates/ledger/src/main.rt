@@ -1,11 +1,12 @@
 // The program `ledger`: reads, hands what it read to crates/intake, writes what that answers, and stops.
-use intake::State;
+use intake::Progress;
+use units::limits;
 ghost use lib.ListN.{length};
 ghost use mathlib.Core.Path.{_≡_};
 
 // The state after a read; whether there is more to read; whether a read or a write failed.
 struct Turn {
-    state: State,
+    state: Progress,
     more: bool,
     failed: bool,
 }
@@ -19,9 +20,9 @@ fn room() -> [u8; 786432]
 
 // One read, and one write of the answers to the lines that end in it. No more is read once every line is answered that ever will be.
 fn read_once(
-    state: State,
+    state: Progress,
     input: &mut [u8],
-    filled: &mut [bool],
+    marks: &mut [bool],
     amounts: &mut [i64],
     out: &mut [u8],
 ) -> Turn {
@@ -34,20 +35,20 @@ fn read_once(
         };
     }
     let n = io::count(got, input);
-    let fed = intake::feed(state, &input[..n], filled, amounts, out);
+    let fed = intake::feed(state, &input[..n], marks, amounts, out);
     let wrote = io::write_all(1, &out[..fed.written]);
     let next = fed.state;
-    let desk = next.desk;
+    let cover = next.cover;
     Turn {
         state: next,
-        more: (0 < n) & wrote & (desk.count < intake::MOST),
+        more: (0 < n) & wrote & (cover.count < intake::MOST),
         failed: !wrote,
     }
 }
 
 // Writes the answer to a last line without its end, and the total.
-fn close(state: State, filled: &mut [bool], amounts: &mut [i64], out: &mut [u8]) -> bool {
-    let finished = intake::finish(state, filled, amounts, out);
+fn close(state: Progress, marks: &mut [bool], amounts: &mut [i64], out: &mut [u8]) -> bool {
+    let finished = intake::finish(state, marks, amounts, out);
     io::write_all(1, &out[..finished.written])
 }
 
@@ -60,8 +61,8 @@ fn say_failed() {
 }
 
 fn main() {
-    let mut filled = [false; 744];
-    let mut amounts = [0i64; 744];
+    let mut marks = [false; limits::PLACES];
+    let mut amounts = [0i64; limits::PLACES];
     let mut input = io::large_buffer();
     let mut out = room();
     let mut now = Turn {
@@ -73,7 +74,7 @@ fn main() {
     let mut turns = u64::MAX;
     while now.more & (0 < turns) {
         let state = now.state;
-        now = read_once(state, &mut input, &mut filled, &mut amounts, &mut out);
+        now = read_once(state, &mut input, &mut marks, &mut amounts, &mut out);
         turns -= 1;
     }
     if now.failed {
@@ -81,7 +82,7 @@ fn main() {
         return;
     }
     let state = now.state;
-    if !close(state, &mut filled, &mut amounts, &mut out) {
+    if !close(state, &mut marks, &mut amounts, &mut out) {
         say_failed();
     }
 }

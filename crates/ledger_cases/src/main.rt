@@ -1,11 +1,12 @@
 // The run cases of the program `ledger`. The input has them one after another: a heading, a byte 01, the input of the case, a byte 00.
 // Each goes to crates/intake in chunks of one byte, the smallest there are, and its transcript is written under the heading.
-use intake::State;
+use intake::Progress;
+use units::limits;
 
 // Where the reading stands: in a heading, or in a case.
 struct Case {
     heading: bool,
-    state: State,
+    state: Progress,
 }
 
 // Where it stands after a read, and whether there is more.
@@ -18,7 +19,7 @@ struct Turn {
 fn take_piece(
     case: Case,
     piece: &[u8],
-    filled: &mut [bool],
+    marks: &mut [bool],
     amounts: &mut [i64],
     out: &mut [u8],
 ) -> Case {
@@ -27,7 +28,7 @@ fn take_piece(
         return case;
     }
     let state = case.state;
-    let fed = intake::feed(state, piece, filled, amounts, out);
+    let fed = intake::feed(state, piece, marks, amounts, out);
     io::write_all(1, &out[..fed.written]);
     let next = fed.state;
     Case {
@@ -37,8 +38,8 @@ fn take_piece(
 }
 
 // The total of a case that ends.
-fn end_case(state: State, filled: &mut [bool], amounts: &mut [i64], out: &mut [u8]) {
-    let finished = intake::finish(state, filled, amounts, out);
+fn end_case(state: Progress, marks: &mut [bool], amounts: &mut [i64], out: &mut [u8]) {
+    let finished = intake::finish(state, marks, amounts, out);
     io::write_all(1, &out[..finished.written]);
 }
 
@@ -46,7 +47,7 @@ fn end_case(state: State, filled: &mut [bool], amounts: &mut [i64], out: &mut [u
 fn take_byte(
     case: Case,
     byte: u8,
-    filled: &mut [bool],
+    marks: &mut [bool],
     amounts: &mut [i64],
     out: &mut [u8],
 ) -> Case {
@@ -59,27 +60,27 @@ fn take_byte(
     }
     if byte == 0 {
         let state = case.state;
-        end_case(state, filled, amounts, out);
+        end_case(state, marks, amounts, out);
         return Case {
             heading: true,
             state: intake::start(),
         };
     }
     let piece = [byte];
-    take_piece(case, &piece, filled, amounts, out)
+    take_piece(case, &piece, marks, amounts, out)
 }
 
 fn take_all(
     case: Case,
     bytes: &[u8],
-    filled: &mut [bool],
+    marks: &mut [bool],
     amounts: &mut [i64],
     out: &mut [u8],
 ) -> Case {
     let mut now = case;
     let mut i = 0;
     while i < bytes.len() {
-        now = take_byte(now, bytes[i], filled, amounts, out);
+        now = take_byte(now, bytes[i], marks, amounts, out);
         i += 1;
     }
     now
@@ -88,13 +89,13 @@ fn take_all(
 fn read_once(
     case: Case,
     input: &mut [u8],
-    filled: &mut [bool],
+    marks: &mut [bool],
     amounts: &mut [i64],
     out: &mut [u8],
 ) -> Turn {
     let got = libc::read(0, input);
     let n = io::count(got, input);
-    let next = take_all(case, &input[..n], filled, amounts, out);
+    let next = take_all(case, &input[..n], marks, amounts, out);
     Turn {
         case: next,
         more: 0 < n,
@@ -102,8 +103,8 @@ fn read_once(
 }
 
 fn main() {
-    let mut filled = [false; 744];
-    let mut amounts = [0i64; 744];
+    let mut marks = [false; limits::PLACES];
+    let mut amounts = [0i64; limits::PLACES];
     let mut input = io::buffer();
     let mut out = [0u8; 64];
     let mut now = Turn {
@@ -117,7 +118,7 @@ fn main() {
     let mut turns = 1_000_000u64;
     while now.more & (0 < turns) {
         let case = now.case;
-        now = read_once(case, &mut input, &mut filled, &mut amounts, &mut out);
+        now = read_once(case, &mut input, &mut marks, &mut amounts, &mut out);
         turns -= 1;
     }
 }

@@ -1,37 +1,75 @@
--- The calls by value, over the calls in place: 22, and a month put together from what a call in place answered and left. By rewriting with the
--- test for 22. Assumes nothing.
+-- The calls by value, over the calls in place: 22, and a month put together from what a call in place answered and left; a refused call hands the same ledger
+-- back. By rewriting with the test for 22. Assumes nothing.
 use Prim.Native.Nat.{ℕ, _≤_}
-use mathlib.Core.Path.{_≡_, refl, _∙_}
+use mathlib.Core.Path.{_≡_, refl, ap, ap₂, _∙_}
 use mathlib.Core.Bool.{Bool, true, false}
 use mathlib.Core.List.{List}
 use native.Mathlib.Omega.{arith}
 use mir.Val.{boolByte}
-use lib.IntN.{ℤ}
+use lib.IntN.{ℤ, pos}
+use lib.ListN.{length, replicate}
 use Rattle.whole.specs.Choice.{pick}
-use Rattle.history.specs.Rules.{Call}
-use Rattle.history.specs.Board.{wellFormed, refusalOf, nextOf, ruledIn, handedIn}
-use Rattle.history.proofs.Board.{Good, good-refusal, good-left}
+use Rattle.whole.proofs.Choice.{by-test, kept-old}
+use Rattle.history.specs.Rules.{Call, Deed}
+use Rattle.history.specs.Board.{wellFormed, handed, refusalOf, nextOf, ruledIn, handedIn}
+use Rattle.history.proofs.Board.{Good, well-good, well-opens, good-refusal, good-left, CameAt}
+use Rattle.units.specs.Limits.{isDays, monthPlaces}
 use Rattle.units.specs.Refusals.{notReachable}
-use Rattle.board.specs.Board.{Fee, Item, boardIn}
-use Rattle.board.specs.declared.Head.{Head}
-use Rattle.month.specs.Month.{rulesOf, boardOf, monthOf, bookedOf, answerOf}
+use Rattle.head.specs.Rules.{Fee, Item}
+use Rattle.head.specs.Head.{placeOf, boardIn, openedHead}
+use Rattle.head.specs.declared.Head.{Head}
+use Rattle.head.specs.declared.Place.{Place}
+use Rattle.head.proofs.Sound.{month-sound}
+use Rattle.board.specs.Board.{placeRuled, placeHanded}
+use Rattle.month.specs.Month.{rulesOf, boardOf, monthOf, monthHead, bookedOf, freshMonth, openOf, monthAnswer}
 use Rattle.month.specs.declared.Month.{Month}
-use Rattle.month.proofs.Sound.{month-sound, well-days}
+
+-- a well-formed month opens, and is a board in form
+pub well-days : (m : Month) → wellFormed (rulesOf m) (boardOf m) ≡ true → isDays (m .days) ≡ true
+well-days m = well-opens (rulesOf m) (boardOf m)
+
+pub month-good : (m : Month) → wellFormed (rulesOf m) (boardOf m) ≡ true → length (m .marks) ≡ monthPlaces → length (m .amounts) ≡ monthPlaces → Good (rulesOf m) (boardOf m)
+month-good m w lf lx = well-good (rulesOf m) (month-sound (m .days) (well-days m w)) (boardOf m) w lf lx
 
 -- 22
-pub answer-22 : (m : Month) (c : Call Fee Item) → wellFormed (rulesOf m) (boardOf m) ≡ false → record { refusal = notReachable; month = m } ≡ answerOf m c
-unfolding answerOf refusalOf nextOf
+pub answer-22 : (m : Month) (c : Call Fee Item) → wellFormed (rulesOf m) (boardOf m) ≡ false → record { refusal = notReachable; month = m } ≡ monthAnswer m c
+unfolding monthAnswer refusalOf nextOf
 answer-22 m c w = rw w
 
 -- a month put together from what a call in place answered and left: on a ledger in form it is refused for nothing but the ruling
 pub answer-in : (m : Month) (c : Call Fee Item) (k : ℕ) (head : Head) (gs : List Bool) (ys : List ℤ) → wellFormed (rulesOf m) (boardOf m) ≡ true → Good (rulesOf m) (boardOf m)
-    → k ≡ ruledIn (rulesOf m) (boardOf m) c → boardIn head gs ys ≡ handedIn (rulesOf m) (boardOf m) c → head .days ≡ m .days → bookedOf k head gs ys ≡ answerOf m c
-unfolding answerOf refusalOf nextOf
+    → k ≡ ruledIn (rulesOf m) (boardOf m) c → boardIn head gs ys ≡ handedIn (rulesOf m) (boardOf m) c → head .days ≡ m .days → bookedOf k head gs ys ≡ monthAnswer m c
+unfolding monthAnswer refusalOf nextOf
 answer-in m c k head gs ys w g number board days =
     let sound = month-sound (m .days) (well-days m w) in
     let ruled = number ∙ good-refusal (rulesOf m) sound (boardOf m) g c in
     let left = board ∙ good-left (rulesOf m) sound (boardOf m) g c in
     rw w (λ i. record { refusal = ruled i; month = monthOf (days i) (left i) })
+
+-- a call at a place: the head is the month's, and the place that of the call's day and hour
+pub answer-at : (m : Month) (c : Call Fee Item) (deed : Deed Item) (d x : ℕ) → CameAt (rulesOf m) (boardOf m) d x c deed
+    → (k : ℕ) (head : Head) (place : Place) (gs : List Bool) (ys : List ℤ) → wellFormed (rulesOf m) (boardOf m) ≡ true → Good (rulesOf m) (boardOf m)
+    → head ≡ monthHead m → place ≡ placeOf (m .days) d x
+    → k ≡ placeRuled head (m .marks) (m .amounts) place deed → boardIn head gs ys ≡ placeHanded head (m .marks) (m .amounts) place deed
+    → bookedOf k head gs ys ≡ monthAnswer m c
+answer-at m c deed d x came k head place gs ys w g h p number board =
+    answer-in m c k head gs ys w g
+    (number ∙ ap₂ (λ (h : Head) (p : Place). placeRuled h (m .marks) (m .amounts) p deed) h p ∙ came .0)
+    (board ∙ ap₂ (λ (h : Head) (p : Place). placeHanded h (m .marks) (m .amounts) p deed) h p ∙ came .1)
+    (ap (λ (h : Head). h .days) h)
+
+-- a refused call hands the same ledger back
+pub refused-same : (m : Month) (c : Call Fee Item) → (monthAnswer m c .refusal ≡ 0 → ⊥) → monthAnswer m c .month ≡ m
+unfolding monthAnswer refusalOf nextOf handed
+refused-same m c f =
+    by-test (wellFormed (rulesOf m) (boardOf m))
+    (λ (w : wellFormed (rulesOf m) (boardOf m) ≡ true). rw w (ap (monthOf (m .days)) (kept-old _ (boardOf m) (λ z. f (rw w z)))))
+    (λ (w : wellFormed (rulesOf m) (boardOf m) ≡ false). rw w)
+
+-- an open, from the head's answer
+pub open-is : (days : ℕ) → bookedOf (openedHead days .refusal) (openedHead days .head) (replicate monthPlaces false) (replicate monthPlaces (pos 0)) ≡ openOf days
+unfolding openOf openedHead freshMonth
+open-is days = by-test (isDays days) (λ (t : isDays days ≡ true). rw t) (λ (t : isDays days ≡ false). rw t)
 
 -- a mark as a number
 pub byte-is : (b : Bool) → boolByte b ≡ pick b 1 0

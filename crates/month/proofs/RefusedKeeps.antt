@@ -7,13 +7,16 @@ use Rattle.whole.specs.Refused.{RefusedBare}
 use Rattle.whole.proofs.Choice.{by-test, kept-old}
 use Rattle.history.specs.Rules.{Call}
 use Rattle.history.specs.Board.{wellFormed, hourOn, dayOn}
-use Rattle.board.specs.Board.{Fee, Item, isDays, dollars, toldOf}
+use Rattle.units.specs.Limits.{isDays}
+use Rattle.units.specs.Units.{dollars}
+use Rattle.head.specs.Rules.{Fee, Item}
+use Rattle.board.specs.Board.{toldOf}
 use Rattle.board.specs.declared.Told.{Told}
-use Rattle.month.specs.Month.{rulesOf, boardOf, readOut, freshMonth, openOf, answerOf, hourOf, dayOf, totalOf, standingOf}
+use Rattle.month.specs.Month.{rulesOf, boardOf, readOut, freshMonth, openOf, monthAnswer, hourTold, dayTold, totalTold, standingTold}
 use Rattle.month.specs.declared.Month.{Month}
 use Rattle.month.specs.declared.Booked.{Booked}
 use Rattle.month.specs.declared.Counted.{Counted}
-use Rattle.month.proofs.Demand.{refused-same}
+use Rattle.month.proofs.Core.{refused-same}
 use Rattle.month.proofs.Month.«open».Reads as open-reads
 use Rattle.month.proofs.Month.«open».Kinds as open-kinds
 use Rattle.month.proofs.Month.post.Reads as post-reads
@@ -47,7 +50,7 @@ open-refused-keeps κs a x s p f =
     let left : x .month ≡ freshMonth 0 = ap (λ (b : Booked). b .month) p ∙ rw t in
     λ i. record { refusal = x .refusal; month = left i })
 
-same-ledger : (m : Month) (c : Call Fee Item) (x : Booked) → x ≡ answerOf m c → (x .refusal ≡ 0 → ⊥) → x ≡ record { refusal = x .refusal; month = m }
+same-ledger : (m : Month) (c : Call Fee Item) (x : Booked) → x ≡ monthAnswer m c → (x .refusal ≡ 0 → ⊥) → x ≡ record { refusal = x .refusal; month = m }
 same-ledger m c x p f =
     let left : x .month ≡ m = ap (λ (b : Booked). b .month) p ∙ refused-same m c (λ z. f (ap (λ (b : Booked). b .refusal) p ∙ z)) in
     λ i. record { refusal = x .refusal; month = left i }
@@ -82,22 +85,22 @@ no-figure m t x none p f = λ i. record { refusal = x .refusal; amount = left i 
         (λ (w : wellFormed (rulesOf m) (boardOf m) ≡ false). ap (λ (y : Told). y .amount) p ∙ rw w)
 
 hour-refused-keeps : RefusedBare 0 hour-kinds.ps hour-kinds.r (λ κs x. x .refusal) (λ κs a k. record { refusal = k; amount = dollars (pos 0) }) hour-reads.Post
-unfolding hourOf hourOn
+unfolding hourTold hourOn
 hour-refused-keeps κs a x s p f = no-figure (a .0) _ x (λ e. kept-old _ (pos 0) e) p f
 
 day-refused-keeps : RefusedBare 0 day-kinds.ps day-kinds.r (λ κs x. x .refusal) (λ κs a k. record { refusal = k; amount = dollars (pos 0) }) day-reads.Post
-unfolding dayOf dayOn
+unfolding dayTold dayOn
 day-refused-keeps κs a x s p f = no-figure (a .0) _ x (λ e. kept-old _ (pos 0) e) p f
 
 total-refused-keeps : RefusedBare 0 total-kinds.ps total-kinds.r (λ κs x. x .refusal) (λ κs a k. record { refusal = k; amount = dollars (pos 0) }) total-reads.Post
-unfolding totalOf
+unfolding totalTold
 total-refused-keeps κs a x s p f = no-figure (a .0) _ x (λ e. absurd (e refl)) p f
 
-standing-refused-keeps : RefusedBare 0 standing-kinds.ps standing-kinds.r (λ κs x. x .refusal) (λ κs a k. record { refusal = k; hours = 0 }) standing-reads.Post
-unfolding standingOf
+standing-refused-keeps : RefusedBare 0 standing-kinds.ps standing-kinds.r (λ κs x. x .refusal) (λ κs a k. record { refusal = k; standing = 0 }) standing-reads.Post
+unfolding standingTold
 standing-refused-keeps κs a x s p f =
     by-test (wellFormed (rulesOf (a .0)) (boardOf (a .0)))
     (λ (w : wellFormed (rulesOf (a .0)) (boardOf (a .0)) ≡ true). absurd (f (ap (λ (t : Counted). t .refusal) p ∙ rw w)))
     (λ (w : wellFormed (rulesOf (a .0)) (boardOf (a .0)) ≡ false).
-    let none : x .hours ≡ 0 = ap (λ (t : Counted). t .hours) p ∙ rw w in
-    λ i. record { refusal = x .refusal; hours = none i })
+    let none : x .standing ≡ 0 = ap (λ (t : Counted). t .standing) p ∙ rw w in
+    λ i. record { refusal = x .refusal; standing = none i })

@@ -5,11 +5,14 @@ use mathlib.Core.List.{List}
 use lib.IntN.{ℤ, pos}
 use lib.ListN.{replicate}
 use Rattle.whole.specs.Choice.{pick, unless}
+use Rattle.units.specs.Limits.{isDays, monthPlaces}
 use Rattle.units.specs.Refusals.{notInMonth}
+use Rattle.units.specs.Units.{dollars}
 use Rattle.history.specs.Rules.{Call, Rules}
-use Rattle.history.specs.Board.{Board, refusalOf, nextOf, orReachable, hourOn, dayOn, totalOn, hoursOn}
-use Rattle.board.specs.Board.{Fee, Item, isDays, monthRules, dollars, toldOf}
-use Rattle.board.specs.declared.Head.{Head}
+use Rattle.history.specs.Board.{Board, refusalOf, nextOf, orReachable, hourOn, dayOn, totalOn, standingOn}
+use Rattle.head.specs.Rules.{Fee, Item, monthRules}
+use Rattle.head.specs.declared.Head.{Head}
+use Rattle.board.specs.Board.{toldOf}
 use Rattle.board.specs.declared.Told.{Told}
 use Rattle.month.specs.declared.Month.{Month}
 use Rattle.month.specs.declared.Booked.{Booked}
@@ -21,32 +24,32 @@ abbrev pub rulesOf : Month → Rules Fee Bool ℤ
 rulesOf m = monthRules (m .days)
 
 abbrev pub boardOf : Month → Board Fee Bool ℤ
-boardOf m = record { closed = m .closed; fee = λ _. m .fee .0; marks = m .filled; items = m .amounts }
+boardOf m = record { closed = m .closed; fee = λ _. m .fee .0; marks = m .marks; amounts = m .amounts }
 
 abbrev pub monthOf : ℕ → Board Fee Bool ℤ → Month
-monthOf days b = record { days = days; closed = b .closed; fee = dollars (b .fee tt); filled = b .marks; amounts = b .items }
+monthOf days b = record { days = days; closed = b .closed; fee = dollars (b .fee tt); marks = b .marks; amounts = b .amounts }
 
 -- ---- the calls
 
-abbrev pub headOf : Month → Head
-headOf m = record { days = m .days; closed = m .closed; fee = m .fee }
+abbrev pub monthHead : Month → Head
+monthHead m = record { days = m .days; closed = m .closed; fee = m .fee }
 
 -- a refusal's number, and a month of a head and its places
 abbrev pub bookedOf : ℕ → Head → List Bool → List ℤ → Booked
-bookedOf k head filled amounts =
-    record { refusal = k; month = record { days = head .days; closed = head .closed; fee = head .fee; filled = filled; amounts = amounts } }
+bookedOf k head marks amounts =
+    record { refusal = k; month = record { days = head .days; closed = head .closed; fee = head .fee; marks = marks; amounts = amounts } }
 
 -- every place empty, no fee, open
 unfoldable pub freshMonth : ℕ → Month
-freshMonth days = record { days = days; closed = false; fee = dollars (pos 0); filled = replicate 744 false; amounts = replicate 744 (pos 0) }
+freshMonth days = record { days = days; closed = false; fee = dollars (pos 0); marks = replicate monthPlaces false; amounts = replicate monthPlaces (pos 0) }
 
 -- a refused open hands back the all-zero ledger
 unfoldable pub openOf : ℕ → Booked
 openOf days = record { refusal = unless (isDays days) notInMonth 0; month = pick (isDays days) (freshMonth days) (freshMonth 0) }
 
 -- any other call: 22, 9, 6, 3, then 7 or 8; a refusal hands the same ledger back
-unfoldable pub answerOf : Month → Call Fee Item → Booked
-answerOf m c = record { refusal = refusalOf (rulesOf m) (boardOf m) c; month = monthOf (m .days) (nextOf (rulesOf m) (boardOf m) c) }
+unfoldable pub monthAnswer : Month → Call Fee Item → Booked
+monthAnswer m c = record { refusal = refusalOf (rulesOf m) (boardOf m) c; month = monthOf (m .days) (nextOf (rulesOf m) (boardOf m) c) }
 
 -- ---- the read-outs: 22, then what the board tells
 
@@ -54,19 +57,19 @@ abbrev pub readOut : Month → ℕ × ℤ → Told
 readOut m t = toldOf (orReachable (rulesOf m) (pos 0) (boardOf m) t)
 
 -- one hour: 22, 6, 8
-unfoldable pub hourOf : Month → ℕ → ℕ → Told
-hourOf m day hour = readOut m (hourOn (rulesOf m) (boardOf m) day hour)
+unfoldable pub hourTold : Month → ℕ → ℕ → Told
+hourTold m day hour = readOut m (hourOn (rulesOf m) (boardOf m) day hour)
 
 -- a day's sum: 22, 6
-unfoldable pub dayOf : Month → ℕ → Told
-dayOf m day = readOut m (dayOn (rulesOf m) (boardOf m) day)
+unfoldable pub dayTold : Month → ℕ → Told
+dayTold m day = readOut m (dayOn (rulesOf m) (boardOf m) day)
 
 -- the month total: 22
-unfoldable pub totalOf : Month → Told
-totalOf m = readOut m (0, totalOn (rulesOf m) (boardOf m))
+unfoldable pub totalTold : Month → Told
+totalTold m = readOut m (0, totalOn (rulesOf m) (boardOf m))
 
 -- the number of standing hours: 22
-unfoldable pub standingOf : Month → Counted
-standingOf m =
-    let r = orReachable (rulesOf m) 0 (boardOf m) (0, hoursOn (rulesOf m) (boardOf m)) in
-    record { refusal = r .0; hours = r .1 }
+unfoldable pub standingTold : Month → Counted
+standingTold m =
+    let r = orReachable (rulesOf m) 0 (boardOf m) (0, standingOn (rulesOf m) (boardOf m)) in
+    record { refusal = r .0; standing = r .1 }

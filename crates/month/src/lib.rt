@@ -1,31 +1,33 @@
-// The month ledger: 744 hour places, a loss fee, and a mark that stops every change. It knows nothing of readings.
+// The month ledger: its hour places, a loss fee, and a mark that stops every change. It knows nothing of readings.
 //
 // The calls on a `Month` by value refuse with 22 a ledger that no run of calls hands back, and go through the calls in place (crate board).
+ghost use Prim.Native.Nat.{_+_, _≤_};
 ghost use mathlib.Core.Path.{_≡_};
 ghost use mathlib.Core.Bool.{false};
-ghost use Prim.Native.Nat.{_+_, _≤_};
-ghost use lib.IntN.{pos, _-ℤ_};
+ghost use lib.IntN.{pos};
 ghost use lib.ListN.{length, getD, take, drop};
-ghost use mir.Syntax.{w64};
-ghost use mir.Val.{SFits};
 ghost use Rattle.whole.specs.Folds.{countTo};
 ghost use Rattle.whole.specs.Whole.{summed};
+ghost use Rattle.units.specs.Limits.{hoursOfDay, monthPlaces};
+ghost use Rattle.units.specs.Refusals.{notReachable};
+ghost use Rattle.units.specs.Units.{dollars};
 ghost use Rattle.history.specs.Rules.{Call};
 ghost use Rattle.history.specs.Board.{wellFormed};
-ghost use Rattle.units.specs.Refusals.{notReachable};
-ghost use Rattle.board.specs.Board.{amountItem, isDays, dollars, toldOf};
-ghost use Rattle.month.specs.Month.{headOf, bookedOf, rulesOf, boardOf, freshMonth, openOf, answerOf, hourOf, dayOf, totalOf, standingOf};
-use board::Head;
+ghost use Rattle.head.specs.Rules.{amountItem};
+ghost use Rattle.board.specs.Board.{toldOf};
+ghost use Rattle.month.specs.Month.{monthHead, bookedOf, rulesOf, boardOf, openOf, monthAnswer, hourTold, dayTold, totalTold, standingTold};
 use board::Told;
+use head::Head;
 use units::Dollars;
+use units::limits;
 use units::refusals;
 
 pub struct Month {
     pub days: u8,
     pub closed: bool,
     pub fee: Dollars,
-    pub filled: [bool; Month::PLACES],
-    pub amounts: [i64; Month::PLACES],
+    pub marks: [bool; limits::PLACES],
+    pub amounts: [i64; limits::PLACES],
 }
 
 // What a call answers: its refusal, and the ledger that it hands back.
@@ -37,53 +39,38 @@ pub struct Booked {
 // What the count of standing hours answers.
 pub struct Counted {
     pub refusal: u8,
-    pub hours: usize,
+    pub standing: usize,
 }
 
-fn is_days(days: u8) -> bool
-    ensures { λ r. ⌜ r ≡ isDays days ⌝ }
-{
-    (28 <= days) & (days <= 31)
-}
-
-fn standing_in(filled: &[bool; Month::PLACES]) -> usize
-    ensures { λ r. ⌜ r ≡ countTo 744 (λ p. getD (now (filled .entry)) p false) ⌝ }
+fn standing_in(marks: &[bool; limits::PLACES]) -> usize
+    ensures { λ r. ⌜ r ≡ countTo monthPlaces (λ p. getD (now (marks .entry)) p false) ⌝ }
 {
     let mut n = 0;
     let mut p = 0;
-    while p < Month::PLACES {
-        n += filled[p] as usize;
+    while p < limits::PLACES {
+        n += marks[p] as usize;
         p += 1;
     }
     n
 }
 
-// The sum of a day's 24 amounts from its first place on.
+// The sum of a day's amounts from its first place on.
 fn day_sum(amounts: &[i64], from: usize) -> Dollars
-    requires { ⌜ from + 24 ≤ length (now amounts) ⌝ }
-    ensures { λ r. ⌜ r ≡ dollars (summed (take 24 (drop from (now (amounts .entry)))) .sum) ⌝ }
+    requires { ⌜ from + hoursOfDay ≤ length (now amounts) ⌝ }
+    ensures { λ r. ⌜ r ≡ dollars (summed (take hoursOfDay (drop from (now (amounts .entry)))) .sum) ⌝ }
 {
-    let s = whole::sum(&amounts[from..from + 24]);
+    let s = whole::sum(&amounts[from..from + limits::HOURS]);
     Dollars(s.sum)
-}
-
-fn less(amount: Dollars, fee: Dollars) -> Dollars
-    requires { ⌜ SFits w64 (amount .0 -ℤ fee .0) ⌝ }
-    ensures { λ r. ⌜ r ≡ dollars (amount .0 -ℤ fee .0) ⌝ }
-{
-    let a = amount.0;
-    let f = fee.0;
-    Dollars(a - f)
 }
 
 // What a call answers, put together from its number, its head and its places.
 fn put_together(
     k: u8,
     head: Head,
-    filled: [bool; Month::PLACES],
-    amounts: [i64; Month::PLACES],
+    marks: [bool; limits::PLACES],
+    amounts: [i64; limits::PLACES],
 ) -> Booked
-    ensures { λ r. ⌜ r ≡ bookedOf k head filled amounts ⌝ }
+    ensures { λ r. ⌜ r ≡ bookedOf k head marks amounts ⌝ }
 {
     let fee = head.fee;
     Booked {
@@ -92,7 +79,7 @@ fn put_together(
             days: head.days,
             closed: head.closed,
             fee: fee,
-            filled: filled,
+            marks: marks,
             amounts: amounts,
         },
     }
@@ -109,37 +96,24 @@ fn refused(k: u8) -> Told
 }
 
 impl Month {
-    pub const PLACES: usize = board::PLACES;
+    pub const PLACES: usize = limits::PLACES;
 
-    pub const LEAST: i64 = board::LEAST;
+    pub const LEAST: i64 = -limits::AMOUNT;
 
-    pub const MOST: i64 = board::MOST;
+    pub const MOST: i64 = limits::AMOUNT;
 
-    pub const FEE: i64 = board::FEE;
-
-    // A month of that many days with every place empty.
-    fn fresh(days: u8) -> Month
-        ensures { λ r. ⌜ r ≡ freshMonth days ⌝ }
-    {
-        Month {
-            days: days,
-            closed: false,
-            fee: Dollars(0),
-            filled: [false; Month::PLACES],
-            amounts: [0; Month::PLACES],
-        }
-    }
+    pub const FEE: i64 = limits::LOSS_FEE;
 
     // Whether some run of calls from a fresh month hands this one back.
     fn well_formed(self) -> bool
         ensures { λ r. ⌜ r ≡ wellFormed (rulesOf self) (boardOf self) ⌝ }
     {
         let head = self.head();
-        board::check_in(head, &self.filled, &self.amounts) == 0
+        board::check_in(head, &self.marks, &self.amounts) == 0
     }
 
     fn head(self) -> Head
-        ensures { λ r. ⌜ r ≡ headOf self ⌝ }
+        ensures { λ r. ⌜ r ≡ monthHead self ⌝ }
     {
         let fee = self.fee;
         Head {
@@ -163,142 +137,139 @@ impl Month {
     pub fn open(days: u8) -> Booked
         ensures { λ r. ⌜ r ≡ openOf days ⌝ }
     {
-        if is_days(days) {
-            return Booked {
-                refusal: 0,
-                month: Month::fresh(days),
-            };
-        }
-        Booked {
-            refusal: refusals::NOT_IN_MONTH,
-            month: Month::fresh(0),
-        }
+        let opened = head::open(days);
+        let head = opened.head;
+        put_together(
+            opened.refusal,
+            head,
+            [false; limits::PLACES],
+            [0; limits::PLACES],
+        )
     }
 
     // Puts an amount at an hour that is empty.
     pub fn post(self, day: u8, hour: u8, amount: Dollars) -> Booked
-        ensures { λ r. ⌜ r ≡ answerOf self (Call.post day hour (amountItem (amount .0))) ⌝ }
+        ensures { λ r. ⌜ r ≡ monthAnswer self (Call.post day hour (amountItem (amount .0))) ⌝ }
     {
         if !self.well_formed() {
             return self.unreachable();
         }
         let head = self.head();
-        let mut filled = self.filled;
+        let mut marks = self.marks;
         let mut amounts = self.amounts;
-        let k = board::post_in(head, &mut filled, &mut amounts, day, hour, amount);
-        put_together(k, head, filled, amounts)
+        let free = head::place_of(self.days, day, hour);
+        let k = board::post_in(head, &mut marks, &mut amounts, free, amount);
+        put_together(k, head, marks, amounts)
     }
 
     // Puts another amount at an hour that stands.
     pub fn replace(self, day: u8, hour: u8, amount: Dollars) -> Booked
-        ensures { λ r. ⌜ r ≡ answerOf self (Call.replace day hour (amountItem (amount .0))) ⌝ }
+        ensures { λ r. ⌜ r ≡ monthAnswer self (Call.replace day hour (amountItem (amount .0))) ⌝ }
     {
         if !self.well_formed() {
             return self.unreachable();
         }
         let head = self.head();
-        let mut filled = self.filled;
+        let mut marks = self.marks;
         let mut amounts = self.amounts;
-        let k = board::replace_in(head, &mut filled, &mut amounts, day, hour, amount);
-        put_together(k, head, filled, amounts)
+        let held = head::place_of(self.days, day, hour);
+        let k = board::replace_in(head, &mut marks, &mut amounts, held, amount);
+        put_together(k, head, marks, amounts)
     }
 
     // Empties an hour that stands.
     pub fn withdraw(self, day: u8, hour: u8) -> Booked
-        ensures { λ r. ⌜ r ≡ answerOf self (Call.withdraw day hour) ⌝ }
+        ensures { λ r. ⌜ r ≡ monthAnswer self (Call.withdraw day hour) ⌝ }
     {
         if !self.well_formed() {
             return self.unreachable();
         }
         let head = self.head();
-        let mut filled = self.filled;
+        let mut marks = self.marks;
         let mut amounts = self.amounts;
-        let k = board::withdraw_in(head, &mut filled, &mut amounts, day, hour);
-        put_together(k, head, filled, amounts)
+        let freed = head::place_of(self.days, day, hour);
+        let k = board::withdraw_in(head, &mut marks, &mut amounts, freed);
+        put_together(k, head, marks, amounts)
     }
 
     // Sets the loss fee, which replaces the former.
     pub fn loss_fee(self, amount: Dollars) -> Booked
-        ensures { λ r. ⌜ r ≡ answerOf self (Call.lossFee tt (amount .0)) ⌝ }
+        ensures { λ r. ⌜ r ≡ monthAnswer self (Call.lossFee tt (amount .0)) ⌝ }
     {
         if !self.well_formed() {
             return self.unreachable();
         }
-        let filled = self.filled;
+        let marks = self.marks;
         let amounts = self.amounts;
-        let next = board::loss_fee_in(self.head(), amount);
+        let next = head::loss_fee(self.head(), amount);
         let head = next.head;
-        put_together(next.refusal, head, filled, amounts)
+        put_together(next.refusal, head, marks, amounts)
     }
 
     // Stops every change.
     pub fn close(self) -> Booked
-        ensures { λ r. ⌜ r ≡ answerOf self Call.close ⌝ }
+        ensures { λ r. ⌜ r ≡ monthAnswer self Call.close ⌝ }
     {
         if !self.well_formed() {
             return self.unreachable();
         }
-        let filled = self.filled;
+        let marks = self.marks;
         let amounts = self.amounts;
-        let shut = board::close_in(self.head());
+        let shut = head::close(self.head());
         let head = shut.head;
-        put_together(shut.refusal, head, filled, amounts)
+        put_together(shut.refusal, head, marks, amounts)
     }
 
     // One hour's amount.
     pub fn hour(self, day: u8, hour: u8) -> Told
-        ensures { λ r. ⌜ r ≡ hourOf self day hour ⌝ }
+        ensures { λ r. ⌜ r ≡ hourTold self day hour ⌝ }
     {
         if !self.well_formed() {
             return refused(refusals::NOT_REACHABLE);
         }
         let head = self.head();
-        board::hour_in(head, &self.filled, &self.amounts, day, hour)
+        let asked = head::place_of(self.days, day, hour);
+        board::hour_in(head, &self.marks, &self.amounts, asked)
     }
 
     // A day's sum.
     pub fn day(self, day: u8) -> Told
-        ensures { λ r. ⌜ r ≡ dayOf self day ⌝ }
+        ensures { λ r. ⌜ r ≡ dayTold self day ⌝ }
     {
         if !self.well_formed() {
             return refused(refusals::NOT_REACHABLE);
         }
-        if !((1 <= day) & (day <= self.days)) {
+        let first = head::place_of(self.days, day, 0);
+        if !first.inside {
             return refused(refusals::NOT_IN_MONTH);
         }
         Told {
             refusal: 0,
-            amount: day_sum(&self.amounts, (day as usize - 1) * 24),
+            amount: day_sum(&self.amounts, first.at),
         }
     }
 
     // The month total: the amounts less the loss fee.
     pub fn total(self) -> Told
-        ensures { λ r. ⌜ r ≡ totalOf self ⌝ }
+        ensures { λ r. ⌜ r ≡ totalTold self ⌝ }
     {
-        if !self.well_formed() {
-            return refused(refusals::NOT_REACHABLE);
-        }
-        let s = whole::sum(&self.amounts);
-        Told {
-            refusal: 0,
-            amount: less(Dollars(s.sum), self.fee),
-        }
+        let head = self.head();
+        board::total_in(head, &self.marks, &self.amounts)
     }
 
     // How many hours stand.
     pub fn standing(self) -> Counted
-        ensures { λ r. ⌜ r ≡ standingOf self ⌝ }
+        ensures { λ r. ⌜ r ≡ standingTold self ⌝ }
     {
         if !self.well_formed() {
             return Counted {
                 refusal: refusals::NOT_REACHABLE,
-                hours: 0,
+                standing: 0,
             };
         }
         Counted {
             refusal: 0,
-            hours: standing_in(&self.filled),
+            standing: standing_in(&self.marks),
         }
     }
 }

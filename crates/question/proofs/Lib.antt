@@ -1,9 +1,7 @@
--- The laws that belong to no one function; `pub` are those that crates above cite.
+-- The laws that belong to no one function.
 mod Laws
 mod Boxes
 mod Telling
 mod LineLaws
-pub mod Contracts
-pub mod Posting
 mod Determined
 mod RefusedKeeps

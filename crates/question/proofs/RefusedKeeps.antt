@@ -6,7 +6,7 @@ use lib.ListN.{length}
 use denote.Ref.{now}
 use Rattle.whole.specs.Refused.{RefusedKeeps}
 use Rattle.words.proofs.Refusing.{bare-by, left-by}
-use Rattle.question.specs.Lines.{room, answered, printed}
+use Rattle.question.specs.Inner.{room, answered, printed}
 use Rattle.question.specs.declared.Answered.{Answered}
 use Rattle.question.proofs.reply.Reads as reply
 use Rattle.question.proofs.reply.Kinds as reply-kinds

@@ -4,16 +4,20 @@ ghost use mathlib.Core.Path.{_≡_};
 ghost use lib.ListN.{length};
 ghost use Rattle.text.specs.Text.{put};
 ghost use Rattle.question.specs.Frames.{framed, frameAsked, hourFrame};
-ghost use Rattle.question.specs.Lines.{room, frameText};
+ghost use Rattle.question.specs.Lines.{frameText};
+ghost use Rattle.question.specs.Inner.{room};
 ghost use Rattle.question.specs.Questions.{frameOf};
 use crate::Framed;
 use crate::lines;
+use crate::parts;
 use frame::Entry;
 use frame::kinds;
+use numbers::Places;
 use units::Dollars;
+use units::limits;
 use units::refusals;
+use words::Framing;
 use words::Hour;
-use words::Places;
 
 // A frame, after the number of a refusal that comes before its own: 13, 6.
 fn framed(before: u8, kind: i64, day: i64, hour: i64, amount: i64) -> Framed
@@ -29,33 +33,33 @@ fn framed(before: u8, kind: i64, day: i64, hour: i64, amount: i64) -> Framed
     Framed {
         refusal: k,
         entry: Entry {
-            kind: words::byte_of(kind),
-            day: words::byte_of(day),
-            hour: words::byte_of(hour),
+            kind: numbers::byte_of(kind),
+            day: numbers::byte_of(day),
+            hour: numbers::byte_of(hour),
             amount: Dollars(amount),
         },
     }
 }
 
-fn asked(numbers: &[i64]) -> Framed
-    ensures { λ r. ⌜ r ≡ frameAsked (now (numbers .entry)) ⌝ }
+fn asked(head: [i64; 12]) -> Framed
+    ensures { λ r. ⌜ r ≡ frameAsked head ⌝ }
 {
-    framed(
-        0,
-        whole::at(numbers, 0),
-        whole::at(numbers, 1),
-        whole::at(numbers, 2),
-        whole::at(numbers, 3),
-    )
+    framed(0, head[0], head[1], head[2], head[3])
 }
 
 // The frame that posts an hour's amount; its terms stand after its day and its hour.
 fn of_hour(hour: Hour, numbers: &[i64], places: Places) -> Framed
     ensures { λ r. ⌜ r ≡ hourFrame hour (now (numbers .entry)) places ⌝ }
 {
-    let mut scores = [0u8; 3600];
-    let terms = words::rest(numbers, 2);
-    let settled = hours::settle(hour, terms, numbers, places, &mut scores);
+    let mut scores = [0u8; limits::SECONDS];
+    let first = places.first;
+    let settled = hours::settle(
+        hour,
+        parts::head_of(parts::rest(numbers, 2)),
+        parts::part(numbers, first.start, first.end),
+        parts::rest(numbers, places.tail),
+        &mut scores,
+    );
     let amount = settled.amount;
     framed(
         settled.refusal,
@@ -66,13 +70,13 @@ fn of_hour(hour: Hour, numbers: &[i64], places: Places) -> Framed
     )
 }
 
-pub(crate) fn answer(asks: words::Framed, numbers: &[i64], places: Places) -> Framed
+pub(crate) fn answer(asks: Framing, numbers: &[i64], places: Places) -> Framed
     ensures { λ r. ⌜ r ≡ frameOf asks (now (numbers .entry)) places ⌝ }
 {
     match asks {
-        words::Framed::DregFrame => of_hour(Hour::Dreg, numbers, places),
-        words::Framed::EdregFrame => of_hour(Hour::Edreg, numbers, places),
-        words::Framed::Frame => asked(numbers),
+        Framing::DregFrame => of_hour(Hour::Dreg, numbers, places),
+        Framing::EdregFrame => of_hour(Hour::Edreg, numbers, places),
+        Framing::Frame => asked(parts::head_of(numbers)),
     }
 }
 

@@ -1,27 +1,31 @@
 // The program `desk` between its reading and its printing: a question's word and numbers in, one line of text out.
 ghost use Prim.Native.Nat.{_≤_};
 ghost use mathlib.Core.Path.{_≡_};
+ghost use mathlib.Core.List.{map};
+ghost use lib.IntN.{pos};
 ghost use lib.ListN.{length, drop};
 ghost use Rattle.text.specs.Text.{put};
 ghost use Rattle.words.specs.Replies.{unboxed};
-ghost use Rattle.words.specs.Shapes.{headOf};
 ghost use Rattle.rules.specs.Rules.{ruleReply};
 ghost use Rattle.question.specs.Rules.{rampReply};
-ghost use Rattle.hours.specs.Hours.{hourReply, scoresReply};
-ghost use Rattle.question.specs.Lines.{room, lineText, faultText, answered, printed};
-ghost use Rattle.question.specs.Questions.{runOf, answerText, replyText};
+ghost use Rattle.question.specs.Lines.{lineText};
+ghost use Rattle.question.specs.Inner.{room, answered, printed};
+ghost use Rattle.question.specs.Parts.{headOf};
+ghost use Rattle.question.specs.Questions.{hourPrints, scoresPrints, runOf, answerText, toldLine, questionText, replyText};
 use frame::Entry;
+use numbers::Places;
 use units::Kilowatts;
+use units::limits;
 use units::refusals;
 use words::Few;
 use words::Hour;
-use words::Places;
 use words::Question;
 use words::Rule;
-use words::Run;
+use words::Series;
 
 mod frames;
 mod lines;
+mod parts;
 
 // The places that a run must have at least, so that every line fits.
 pub const ROOM: usize = 32_768;
@@ -36,6 +40,72 @@ pub struct Answered {
 struct Framed {
     refusal: u8,
     entry: Entry,
+}
+
+// Answers a question that was read: puts its line at the start of out. The word is given by its code, and the line is
+// the one that it is on; a fault that was found while reading comes with its own line. That the word is none of the
+// questions' comes first.
+pub fn reply(
+    word: u64,
+    line: u64,
+    found: u8,
+    place: u64,
+    numbers: &[i64],
+    out: &mut [u8],
+) -> Answered
+    ensures answers { λ r. ⌜ r ≡ answered (length (now (out .entry))) (replyText word line found place (now (numbers .entry))) ⌝ }
+    ensures text { λ r. ⌜ now (out .exit) ≡ printed (now (out .entry)) (replyText word line found place (now (numbers .entry))) ⌝ }
+    ensures short { λ r. ⌜ r .written ≤ length (now (out .entry)) ⌝ }
+{
+    let row = words::question_of(word);
+    let shape = row.shape;
+    let question = row.question;
+    let places = numbers::cut(shape, numbers);
+    let fault = whole::or_else(row.fault, whole::or_else(found, places.fault));
+    let at = told_line(row.fault, line, found, place);
+    if out.len() < ROOM {
+        return Answered {
+            refusal: refusals::WRONG_LENGTH,
+            written: 0,
+        };
+    }
+    let written = tell(fault, at, question, numbers, places, out);
+    Answered {
+        refusal: 0,
+        written: written,
+    }
+}
+
+// The line that a fault is told with.
+fn told_line(unknown: u8, line: u64, found: u8, place: u64) -> u64
+    ensures { λ r. ⌜ r ≡ toldLine unknown line found place ⌝ }
+{
+    if (unknown == 0) & (found != 0) {
+        return place;
+    }
+    line
+}
+
+// The fault, or the answer of a question that has none.
+fn tell(
+    fault: u8,
+    line: u64,
+    question: Question,
+    numbers: &[i64],
+    places: Places,
+    out: &mut [u8],
+) -> usize
+    requires { ⌜ room ≤ length (now out) ⌝ }
+    ensures place { λ r. ⌜ r ≡ length (questionText fault line question (now (numbers .entry)) places) ⌝ }
+    ensures text { λ r. ⌜ now (out .exit) ≡ put (now (out .entry)) 0 (questionText fault line question (now (numbers .entry)) places) ⌝ }
+    ensures short { λ r. ⌜ r ≤ room ⌝ }
+{
+    if fault == 0 {
+        return put_answer(question, numbers, places, out);
+    }
+    let words =
+        b": 101 not a question\n: 102 a number too large for 64 bits\n: 103 too few numbers\n: 104 too many numbers\n: 105 not a number\n: no fault\n";
+    lines::put_fault(fault, line, words, out)
 }
 
 // The line of a few fields.
@@ -57,18 +127,24 @@ fn put_rule(rule: Rule, numbers: &[i64], tail: usize, out: &mut [u8]) -> usize
     ensures text { λ r. ⌜ now (out .exit) ≡ put (now (out .entry)) 0 (lineText (ruleReply rule (headOf (now (numbers .entry))) (drop tail (now (numbers .entry))))) ⌝ }
     ensures short { λ r. ⌜ r ≤ room ⌝ }
 {
-    let head = words::head_of(numbers);
-    let few = rules::answer(rule, head, words::rest(numbers, tail));
+    let head = parts::head_of(numbers);
+    let few = rules::answer(rule, head, parts::rest(numbers, tail));
     put_few(few, out)
 }
 
 fn put_hour(hour: Hour, numbers: &[i64], places: Places, out: &mut [u8]) -> usize
     requires { ⌜ room ≤ length (now out) ⌝ }
-    ensures place { λ r. ⌜ r ≡ length (lineText (hourReply hour (now (numbers .entry)) places)) ⌝ }
-    ensures text { λ r. ⌜ now (out .exit) ≡ put (now (out .entry)) 0 (lineText (hourReply hour (now (numbers .entry)) places)) ⌝ }
+    ensures place { λ r. ⌜ r ≡ length (lineText (hourPrints hour (now (numbers .entry)) places)) ⌝ }
+    ensures text { λ r. ⌜ now (out .exit) ≡ put (now (out .entry)) 0 (lineText (hourPrints hour (now (numbers .entry)) places)) ⌝ }
     ensures short { λ r. ⌜ r ≤ room ⌝ }
 {
-    let few = hours::answer(hour, numbers, places);
+    let first = places.first;
+    let few = hours::answer(
+        hour,
+        parts::head_of(numbers),
+        parts::part(numbers, first.start, first.end),
+        parts::rest(numbers, places.tail),
+    );
     put_few(few, out)
 }
 
@@ -78,37 +154,64 @@ fn put_ramp(numbers: &[i64], out: &mut [u8]) -> usize
     ensures text { λ r. ⌜ now (out .exit) ≡ put (now (out .entry)) 0 (lineText (rampReply (now (numbers .entry)))) ⌝ }
     ensures short { λ r. ⌜ r ≤ room ⌝ }
 {
-    let mut seconds = [0i64; 900];
+    let mut seconds = [0i64; limits::QUARTER];
     let last = Kilowatts(whole::at(numbers, 0));
     let target = Kilowatts(whole::at(numbers, 1));
     let k = ramp::ramp(last, target, &mut seconds);
-    let n = lines::shown(k, 900);
+    let n = lines::shown(k, limits::QUARTER);
     lines::put_line(k, &seconds[..n], out)
+}
+
+fn wide(b: u8) -> i64
+    ensures { λ r. ⌜ r ≡ pos b ⌝ }
+{
+    b as i64
+}
+
+// Bytes as numbers.
+fn widen(bytes: &[u8], run: &mut [i64])
+    requires { ⌜ length (now run) ≡ length (now bytes) ⌝ }
+    ensures { λ _. ⌜ now (run .exit) ≡ map pos (now (bytes .entry)) ⌝ }
+{
+    let mut i = 0;
+    while i < run.len() {
+        let n = wide(bytes[i]);
+        run[i] = n;
+        i += 1;
+    }
 }
 
 fn put_hour_scores(hour: Hour, numbers: &[i64], places: Places, out: &mut [u8]) -> usize
     requires { ⌜ room ≤ length (now out) ⌝ }
-    ensures place { λ r. ⌜ r ≡ length (lineText (scoresReply hour (now (numbers .entry)) places)) ⌝ }
-    ensures text { λ r. ⌜ now (out .exit) ≡ put (now (out .entry)) 0 (lineText (scoresReply hour (now (numbers .entry)) places)) ⌝ }
+    ensures place { λ r. ⌜ r ≡ length (lineText (scoresPrints hour (now (numbers .entry)) places)) ⌝ }
+    ensures text { λ r. ⌜ now (out .exit) ≡ put (now (out .entry)) 0 (lineText (scoresPrints hour (now (numbers .entry)) places)) ⌝ }
     ensures short { λ r. ⌜ r ≤ room ⌝ }
 {
-    let mut scores = [0u8; 3600];
-    let settled = hours::settle(hour, numbers, numbers, places, &mut scores);
-    let k = settled.refusal;
-    let n = lines::shown(k, 3600);
-    lines::put_score_line(k, &scores[..n], out)
+    let mut scores = [0u8; limits::SECONDS];
+    let mut fields = [0i64; limits::SECONDS];
+    let first = places.first;
+    let settled = hours::settle(
+        hour,
+        parts::head_of(numbers),
+        parts::part(numbers, first.start, first.end),
+        parts::rest(numbers, places.tail),
+        &mut scores,
+    );
+    widen(&scores, &mut fields);
+    let n = lines::shown(settled.refusal, limits::SECONDS);
+    lines::put_line(settled.refusal, &fields[..n], out)
 }
 
-fn put_run(run: Run, numbers: &[i64], places: Places, out: &mut [u8]) -> usize
+fn put_run(run: Series, numbers: &[i64], places: Places, out: &mut [u8]) -> usize
     requires { ⌜ room ≤ length (now out) ⌝ }
     ensures place { λ r. ⌜ r ≡ length (lineText (runOf run (now (numbers .entry)) places)) ⌝ }
     ensures text { λ r. ⌜ now (out .exit) ≡ put (now (out .entry)) 0 (lineText (runOf run (now (numbers .entry)) places)) ⌝ }
     ensures short { λ r. ⌜ r ≤ room ⌝ }
 {
     match run {
-        Run::Ramp => put_ramp(numbers, out),
-        Run::DregScores => put_hour_scores(Hour::Dreg, numbers, places, out),
-        Run::EdregScores => put_hour_scores(Hour::Edreg, numbers, places, out),
+        Series::Ramp => put_ramp(numbers, out),
+        Series::DregScores => put_hour_scores(Hour::Dreg, numbers, places, out),
+        Series::EdregScores => put_hour_scores(Hour::Edreg, numbers, places, out),
     }
 }
 
@@ -122,76 +225,8 @@ fn put_answer(question: Question, numbers: &[i64], places: Places, out: &mut [u8
     match question {
         Question::Rule(rule) => put_rule(rule, numbers, places.tail, out),
         Question::Hour(hour) => put_hour(hour, numbers, places, out),
-        Question::Run(run) => put_run(run, numbers, places, out),
+        Question::Series(run) => put_run(run, numbers, places, out),
         Question::Frame(asks) => frames::put_frame(frames::answer(asks, numbers, places), out),
         Question::Unknown => lines::put_alone(0, out),
     }
-}
-
-// The answer, where there is room for a line.
-fn answer(question: Question, numbers: &[i64], places: Places, out: &mut [u8]) -> Answered
-    ensures answers { λ r. ⌜ r ≡ answered (length (now (out .entry))) (answerText question (now (numbers .entry)) places) ⌝ }
-    ensures text { λ r. ⌜ now (out .exit) ≡ printed (now (out .entry)) (answerText question (now (numbers .entry)) places) ⌝ }
-    ensures short { λ r. ⌜ r .written ≤ length (now (out .entry)) ⌝ }
-{
-    if out.len() < ROOM {
-        return Answered {
-            refusal: refusals::WRONG_LENGTH,
-            written: 0,
-        };
-    }
-    let written = put_answer(question, numbers, places, out);
-    Answered {
-        refusal: 0,
-        written: written,
-    }
-}
-
-// A fault's line.
-fn fault(fault: u8, line: u64, out: &mut [u8]) -> Answered
-    ensures answers { λ r. ⌜ r ≡ answered (length (now (out .entry))) (faultText fault line) ⌝ }
-    ensures text { λ r. ⌜ now (out .exit) ≡ printed (now (out .entry)) (faultText fault line) ⌝ }
-    ensures short { λ r. ⌜ r .written ≤ length (now (out .entry)) ⌝ }
-{
-    if out.len() < ROOM {
-        return Answered {
-            refusal: refusals::WRONG_LENGTH,
-            written: 0,
-        };
-    }
-    let words =
-        b": 101 not a question\n: 102 a number too large for 64 bits\n: 103 too few numbers\n: 104 too many numbers\n: 105 not a number\n: no fault\n";
-    let written = lines::put_fault(fault, line, words, out);
-    Answered {
-        refusal: 0,
-        written: written,
-    }
-}
-
-// Answers a question that was read: puts its line at the start of out. The word is given by its code, and the line is the one that it is on; a fault
-// that was found while reading comes with its own line. That the word is none of the questions' comes first.
-pub fn reply(
-    word: u64,
-    line: u64,
-    found: u8,
-    place: u64,
-    numbers: &[i64],
-    out: &mut [u8],
-) -> Answered
-    ensures answers { λ r. ⌜ r ≡ answered (length (now (out .entry))) (replyText word line found place (now (numbers .entry))) ⌝ }
-    ensures text { λ r. ⌜ now (out .exit) ≡ printed (now (out .entry)) (replyText word line found place (now (numbers .entry))) ⌝ }
-    ensures short { λ r. ⌜ r .written ≤ length (now (out .entry)) ⌝ }
-{
-    let row = words::question_of(word);
-    let shape = row.shape;
-    let question = row.question;
-    let places = words::cut(shape, numbers);
-    let k = whole::or_else(row.fault, whole::or_else(found, places.fault));
-    if k == 0 {
-        return answer(question, numbers, places, out);
-    }
-    if (row.fault == 0) & (found != 0) {
-        return fault(k, place, out);
-    }
-    fault(k, line, out)
 }

@@ -1,41 +1,33 @@
 // One line of text, put at the start of a lent run. Each function answers the place after what it put.
-ghost use Prim.Native.Nat.{_+_, _-_, _*_, _≤_};
+ghost use Prim.Native.Nat.{_+_, _-_, _≤_};
 ghost use mathlib.Core.Path.{_≡_};
-ghost use mathlib.Core.List.{[], map};
-ghost use lib.IntN.{pos};
+ghost use mathlib.Core.Bool.{false};
+ghost use lib.Dec.{leb};
+ghost use mathlib.Core.List.{[]};
 ghost use lib.ListN.{length, take, drop};
 ghost use Rattle.whole.specs.Choice.{kept};
 ghost use Rattle.text.specs.Text.{put};
 ghost use Rattle.words.specs.Replies.{reply};
-ghost use Rattle.question.specs.Lines.{room, field, fieldsText, lineText, allWords, faultWords, faultText};
+ghost use Rattle.question.specs.Lines.{field, fieldsText, lineText, faultWords, faultText};
+ghost use Rattle.question.specs.Inner.{room, mostFields, allWords};
 
 // A number after a space.
 fn put_field(out: &mut [u8], at: usize, z: i64) -> usize
-    requires { ⌜ at + 22 ≤ length (now out) ⌝ }
+    requires { ⌜ at + length (field z) ≤ length (now out) ⌝ }
     ensures place { λ r. ⌜ r ≡ at + length (field z) ⌝ }
     ensures text { λ r. ⌜ now (out .exit) ≡ put (now (out .entry)) at (field z) ⌝ }
-    ensures short { λ r. ⌜ r ≤ at + 22 ⌝ }
 {
     let a = text::put(out, at, b" ");
     text::put_signed(out, a, z)
 }
 
-// A score after a space.
-fn put_score(out: &mut [u8], at: usize, score: u8) -> usize
-    requires { ⌜ at + 4 ≤ length (now out) ⌝ }
-    ensures place { λ r. ⌜ r ≡ at + length (field (pos score)) ⌝ }
-    ensures text { λ r. ⌜ now (out .exit) ≡ put (now (out .entry)) at (field (pos score)) ⌝ }
-    ensures short { λ r. ⌜ r ≤ at + 4 ⌝ }
-{
-    let a = text::put(out, at, b" ");
-    text::put_decimal(out, a, score as u64)
-}
-
+// Fields one after the other; more than 900 of them have to be short.
 fn put_fields(out: &mut [u8], at: usize, fields: &[i64]) -> usize
-    requires { ⌜ at + 22 * length (now fields) ≤ length (now out) ⌝ }
+    requires { ⌜ at + mostFields ≤ length (now out) ⌝ }
+    requires { ⌜ (leb (length (now fields)) 900 ≡ false → length (fieldsText (now fields)) ≤ mostFields) ⌝ }
     ensures place { λ r. ⌜ r ≡ at + length (fieldsText (now (fields .entry))) ⌝ }
     ensures text { λ r. ⌜ now (out .exit) ≡ put (now (out .entry)) at (fieldsText (now (fields .entry))) ⌝ }
-    ensures short { λ r. ⌜ r ≤ at + 22 * length (now (fields .entry)) ⌝ }
+    ensures short { λ r. ⌜ r ≤ at + mostFields ⌝ }
 {
     let mut to = at;
     let mut i = 0;
@@ -46,44 +38,16 @@ fn put_fields(out: &mut [u8], at: usize, fields: &[i64]) -> usize
     to
 }
 
-fn put_scores(out: &mut [u8], at: usize, scores: &[u8]) -> usize
-    requires { ⌜ at + 4 * length (now scores) ≤ length (now out) ⌝ }
-    ensures place { λ r. ⌜ r ≡ at + length (fieldsText (map pos (now (scores .entry)))) ⌝ }
-    ensures text { λ r. ⌜ now (out .exit) ≡ put (now (out .entry)) at (fieldsText (map pos (now (scores .entry)))) ⌝ }
-    ensures short { λ r. ⌜ r ≤ at + 4 * length (now (scores .entry)) ⌝ }
-{
-    let mut to = at;
-    let mut i = 0;
-    while i < scores.len() {
-        to = put_score(out, to, scores[i]);
-        i += 1;
-    }
-    to
-}
-
-// A refusal's number, and at most 900 fields.
+// A refusal's number and the fields; more than 900 of them have to be short.
 pub(crate) fn put_line(refusal: u8, fields: &[i64], out: &mut [u8]) -> usize
     requires { ⌜ room ≤ length (now out) ⌝ }
-    requires { ⌜ length (now fields) ≤ 900 ⌝ }
+    requires { ⌜ (leb (length (now fields)) 900 ≡ false → length (fieldsText (now fields)) ≤ mostFields) ⌝ }
     ensures place { λ r. ⌜ r ≡ length (lineText (reply refusal (now (fields .entry)))) ⌝ }
     ensures text { λ r. ⌜ now (out .exit) ≡ put (now (out .entry)) 0 (lineText (reply refusal (now (fields .entry)))) ⌝ }
     ensures short { λ r. ⌜ r ≤ room ⌝ }
 {
     let a = text::put_decimal(out, 0, refusal as u64);
     let b = put_fields(out, a, fields);
-    text::put(out, b, b"\n")
-}
-
-// A refusal's number, and at most 3,600 scores.
-pub(crate) fn put_score_line(refusal: u8, scores: &[u8], out: &mut [u8]) -> usize
-    requires { ⌜ room ≤ length (now out) ⌝ }
-    requires { ⌜ length (now scores) ≤ 3600 ⌝ }
-    ensures place { λ r. ⌜ r ≡ length (lineText (reply refusal (map pos (now (scores .entry))))) ⌝ }
-    ensures text { λ r. ⌜ now (out .exit) ≡ put (now (out .entry)) 0 (lineText (reply refusal (map pos (now (scores .entry))))) ⌝ }
-    ensures short { λ r. ⌜ r ≤ room ⌝ }
-{
-    let a = text::put_decimal(out, 0, refusal as u64);
-    let b = put_scores(out, a, scores);
     text::put(out, b, b"\n")
 }
 
@@ -106,36 +70,36 @@ pub(crate) fn shown(refusal: u8, long: usize) -> usize
 }
 
 // From where to where the words of a fault stand among those of all.
-struct Span {
+struct Stretch {
     start: usize,
     end: usize,
 }
 
-fn span_of(fault: u8) -> Span
+fn span_of(fault: u8) -> Stretch
     ensures { λ r. ⌜ (r .start ≤ r .end) × ((r .end ≤ 133) × (take (r .end - r .start) (drop (r .start) allWords) ≡ faultWords fault)) ⌝ }
 {
     if fault == 101 {
-        return Span { start: 0, end: 21 };
+        return Stretch { start: 0, end: 21 };
     }
     if fault == 102 {
-        return Span { start: 21, end: 58 };
+        return Stretch { start: 21, end: 58 };
     }
     if fault == 103 {
-        return Span { start: 58, end: 80 };
+        return Stretch { start: 58, end: 80 };
     }
     if fault == 104 {
-        return Span {
+        return Stretch {
             start: 80,
             end: 103,
         };
     }
     if fault == 105 {
-        return Span {
+        return Stretch {
             start: 103,
             end: 122,
         };
     }
-    Span {
+    Stretch {
         start: 122,
         end: 133,
     }

@@ -1,8 +1,8 @@
 -- What a ramp answers, for the crates above: it stays between its targets, reaches the new one with second 300, and an hour's plan is the ramps of
 -- its quarters. By the sign of the difference. Assumes nothing.
 use mathlib.Core.Path.{_≡_, refl, sym, ap, ap₂, _∙_}
-use mathlib.Core.Bool.{true, false, _&&_}
-use mathlib.Core.List.{List}
+use mathlib.Core.Bool.{true, false}
+use mathlib.Core.List.{List, [], _∷_}
 use Prim.Native.Nat.{ℕ, zero, suc, _+_, _*_, _/_, _%_, _≤_, _<_}
 use native.Mathlib.Nat.{mul-le-mul-left, zero-add}
 use native.Mathlib.Omega.{arith}
@@ -10,41 +10,33 @@ use lib.Dec.{eqb, leb, lit<}
 use lib.IntN.{ℤ, pos, negsuc, natAbs, _+ℤ_, _-ℤ_, _*ℤ_, +ℤ-comm, +ℤ-idr, +ℤ-invr, -ℤ-+ℤ-cancel, zero-*ℤ}
 use lib.ListN.{length, getD, List·getD-eq-default}
 use borrow.Author.Tests.{eqb-true, eq-eqb, leb-true, leb-false}
-use Rattle.whole.specs.Choice.{unless}
 use Rattle.whole.specs.Runs.{listed}
-use Rattle.whole.specs.Whole.{minus, up, down, Within, inRange, allInRange, away, withSign, roundUp}
-use Rattle.whole.proofs.Choice.{and-both, both, by-test, passed, both-passed}
-use Rattle.whole.proofs.Signed.{sum, difference, opposite, leZ-holds, times, size-product}
+use Rattle.whole.specs.Whole.{minus, up, down, Within, away, withSign, roundUp}
+use Rattle.whole.proofs.Choice.{by-test, all-passed}
+use Rattle.whole.proofs.Signed.{sum, difference, opposite, times, size-product}
 use Rattle.whole.proofs.Runs.{length-listed, listed-same, getD-listed}
 use Rattle.whole.proofs.Rounding.{away-within, away-only, sign-up, sign-down}
 use Rattle.whole.proofs.Sums.{in-within, within-in, all-inside, inside-all}
+use Rattle.units.specs.Limits.{mostTransfer, isTransfer, areTransfers, secondsOfQuarter, secondsOfHour}
 use Rattle.units.specs.Refusals.{wrongLength, badTransfer}
 use Rattle.units.specs.declared.Kilowatts.{Kilowatts}
-use Rattle.ramp.specs.Ramp.{rampAt, quarter, isTarget, areTargets, rampRefusal, transferAt, planOf, planRefusal, planLeft}
+use Rattle.ramp.specs.Ramp.{rampAt, rampOf, rampRefusal, transferAt, planOf, planRefusal, planLeft}
 
--- the quarter, without writing its 900 seconds out
-pub quarter-is : (last target : ℤ) (n : ℕ) → n ≡ 900 → listed (rampAt last target) 1 n ≡ quarter last target
-unfolding quarter
-quarter-is last target n e = ap (listed (rampAt last target) 1) e
+-- the ramp, without writing its 900 seconds out
+pub ramp-is : (last target : ℤ) (n : ℕ) → n ≡ secondsOfQuarter → listed (rampAt last target) 1 n ≡ rampOf last target
+unfolding rampOf
+ramp-is last target n e = ap (listed (rampAt last target) 1) e
 
--- ---- targets: the test and the range
-
-pub targets-within : (last target : ℤ) → areTargets last target ≡ true → Within 100000 last × Within 100000 target
-unfolding areTargets
-targets-within last target e = let b = and-both (isTarget last) (isTarget target) e in (in-within (b .0), in-within (b .1))
-
-pub within-target : (z : ℤ) → Within 100000 z → isTarget z ≡ true
-unfolding inRange
-within-target z w = both (leZ-holds (minus 100000) z (omega arith)) (leZ-holds z (pos 100000) (omega arith))
+pub within-target : (z : ℤ) → Within mostTransfer z → isTransfer z ≡ true
+within-target z w = within-in w
 
 -- a ramp that is not refused
-pub ramp-fit : (last target : Kilowatts) (places : ℕ) → rampRefusal last target places ≡ 0 → (places ≡ 900) × (Within 100000 (last .0) × Within 100000 (target .0))
+pub ramp-fit : (last target : Kilowatts) (places : ℕ) → rampRefusal last target places ≡ 0
+    → (places ≡ secondsOfQuarter) × (Within mostTransfer (last .0) × Within mostTransfer (target .0))
 unfolding rampRefusal
 ramp-fit last target places e =
-    let none = both-passed (unless (eqb places 900) wrongLength 0) (unless (areTargets (last .0) (target .0)) badTransfer 0) e in
-    let long = passed (eqb places 900) 0 0 (none .0) in
-    let fit = passed (areTargets (last .0) (target .0)) 9 0 (none .1) in
-    (eqb-true places 900 (long .0), targets-within (last .0) (target .0) (fit .0))
+    let p = all-passed ((eqb places secondsOfQuarter, wrongLength) ∷ (isTransfer (last .0), badTransfer) ∷ (isTransfer (target .0), badTransfer) ∷ []) refl e in
+    (eqb-true places secondsOfQuarter (p .0), (in-within (p .1 .0), in-within (p .1 .1 .0)))
 
 -- ---- a ramp stays between its targets
 
@@ -60,15 +52,15 @@ away-minus zero = refl
 away-minus (suc m) = refl
 
 -- on the way from last to target, `way` their difference
-between : (last target way : ℤ) (n : ℕ) → n ≤ 300 → Within 100000 last → Within 100000 target
-    → up way + (down target + up last) ≡ (up target + down last) + down way → Within 100000 (last +ℤ away (way *ℤ pos n) 300)
+between : (last target way : ℤ) (n : ℕ) → n ≤ 300 → Within mostTransfer last → Within mostTransfer target
+    → up way + (down target + up last) ≡ (up target + down last) + down way → Within mostTransfer (last +ℤ away (way *ℤ pos n) 300)
 unfolding away withSign
 between last target (pos d) n h l t e = omega (arith, sum last (pos (roundUp (d * n) 300)), grown d n h)
 between last target (negsuc d) n h l t e =
     let x = roundUp (suc d * n) 300 in
     rw (away-minus (suc d * n)) (omega (arith, sum last (minus x), opposite (pos x), grown (suc d) n h))
 
-pub ramp-within : (last target : ℤ) (n : ℕ) → Within 100000 last → Within 100000 target → Within 100000 (rampAt last target n)
+pub ramp-within : (last target : ℤ) (n : ℕ) → Within mostTransfer last → Within mostTransfer target → Within mostTransfer (rampAt last target n)
 unfolding rampAt
 ramp-within last target n l t =
     by-test (leb n 300)
@@ -100,69 +92,67 @@ ramp-level z n =
 -- ---- an hour's plan
 
 -- a target past the list's end is 0
-at-target : (targets : List ℤ) (q : ℕ) → allInRange (minus 100000) (pos 100000) targets ≡ true → isTarget (getD targets q (pos 0)) ≡ true
+at-target : (targets : List ℤ) (q : ℕ) → areTransfers targets ≡ true → isTransfer (getD targets q (pos 0)) ≡ true
 at-target targets q e =
     by-test (leb (length targets) q)
     (λ (t : leb (length targets) q ≡ true). rw (List·getD-eq-default targets (pos 0) (leb-true (length targets) q t)) (within-target (pos 0) (omega arith)))
-    (λ (t : leb (length targets) q ≡ false). all-inside (minus 100000) (pos 100000) targets e q (omega (arith, leb-false (length targets) q t)))
+    (λ (t : leb (length targets) q ≡ false). all-inside (minus mostTransfer) (pos mostTransfer) targets e q (omega (arith, leb-false (length targets) q t)))
 
-pub transfer-within : (targets : List ℤ) (i : ℕ) → allInRange (minus 100000) (pos 100000) targets ≡ true → Within 100000 (transferAt targets i)
+pub transfer-within : (targets : List ℤ) (i : ℕ) → areTransfers targets ≡ true → Within mostTransfer (transferAt targets i)
 unfolding transferAt
 transfer-within targets i e =
-    ramp-within (getD targets (i / 900) (pos 0)) (getD targets (i / 900 + 1) (pos 0)) (i % 900 + 1)
-    (in-within (at-target targets (i / 900) e)) (in-within (at-target targets (i / 900 + 1) e))
+    ramp-within (getD targets (i / secondsOfQuarter) (pos 0)) (getD targets (i / secondsOfQuarter + 1) (pos 0)) (i % secondsOfQuarter + 1)
+    (in-within (at-target targets (i / secondsOfQuarter) e)) (in-within (at-target targets (i / secondsOfQuarter + 1) e))
 
 -- an hour's plan that is not refused
 pub record PlanFit (targets : List ℤ) (places : ℕ) : Type 0 where
   pub five : length targets ≡ 5
-  pub long : places ≡ 3600
-  pub inside : allInRange (minus 100000) (pos 100000) targets ≡ true
+  pub long : places ≡ secondsOfHour
+  pub inside : areTransfers targets ≡ true
 
 pub plan-fit : (targets : List ℤ) (places : ℕ) → planRefusal targets places ≡ 0 → PlanFit targets places
 unfolding planRefusal
 plan-fit targets places e =
-    let a = both-passed (unless (eqb (length targets) 5 && eqb places 3600) wrongLength 0) _ e in
-    let n = and-both (eqb (length targets) 5) (eqb places 3600) (passed (eqb (length targets) 5 && eqb places 3600) 0 0 (a .0) .0) in
-    let t = passed (allInRange (minus 100000) (pos 100000) targets) 9 0 (a .1) in
-    record { five = eqb-true (length targets) 5 (n .0); long = eqb-true places 3600 (n .1); inside = t .0 }
+    let p = all-passed ((eqb (length targets) 5, wrongLength) ∷ (eqb places secondsOfHour, wrongLength) ∷ (areTransfers targets, badTransfer) ∷ []) refl e in
+    record { five = eqb-true (length targets) 5 (p .0); long = eqb-true places secondsOfHour (p .1 .0); inside = p .1 .1 .0 }
 
 -- each quarter's ramp is its part of the plan, without writing its 900 seconds out
-pub plan-quarter : (targets : List ℤ) (q n : ℕ) → n ≡ 900
-    → quarter (getD targets q (pos 0)) (getD targets (q + 1) (pos 0)) ≡ listed (transferAt targets) (q * 900) n
+pub plan-quarter : (targets : List ℤ) (q n : ℕ) → n ≡ secondsOfQuarter
+    → rampOf (getD targets q (pos 0)) (getD targets (q + 1) (pos 0)) ≡ listed (transferAt targets) (q * secondsOfQuarter) n
 unfolding transferAt
 plan-quarter targets q n long =
-    sym (quarter-is (getD targets q (pos 0)) (getD targets (q + 1) (pos 0)) n long)
-    ∙ listed-same (rampAt (getD targets q (pos 0)) (getD targets (q + 1) (pos 0))) (transferAt targets) 1 (q * 900) n
+    sym (ramp-is (getD targets q (pos 0)) (getD targets (q + 1) (pos 0)) n long)
+    ∙ listed-same (rampAt (getD targets q (pos 0)) (getD targets (q + 1) (pos 0))) (transferAt targets) 1 (q * secondsOfQuarter) n
     (λ k l.
-    let d : (q * 900 + k) / 900 ≡ q = omega arith in
-    let m : (q * 900 + k) % 900 + 1 ≡ 1 + k = omega arith in
+    let d : (q * secondsOfQuarter + k) / secondsOfQuarter ≡ q = omega arith in
+    let m : (q * secondsOfQuarter + k) % secondsOfQuarter + 1 ≡ 1 + k = omega arith in
     rw (d, m))
 
 -- the whole plan, without writing its 3,600 seconds out
-pub plan-is : (targets : List ℤ) (n : ℕ) → n ≡ 3600 → listed (transferAt targets) 0 n ≡ planOf targets
+pub plan-is : (targets : List ℤ) (n : ℕ) → n ≡ secondsOfHour → listed (transferAt targets) 0 n ≡ planOf targets
 unfolding planOf
 plan-is targets n e = ap (listed (transferAt targets) 0) e
 
-pub plan-at : (targets : List ℤ) (i : ℕ) → i < 3600 → getD (planOf targets) i (pos 0) ≡ transferAt targets i
+pub plan-at : (targets : List ℤ) (i : ℕ) → i < secondsOfHour → getD (planOf targets) i (pos 0) ≡ transferAt targets i
 unfolding planOf
-plan-at targets i h = getD-listed (transferAt targets) 0 3600 i (pos 0) h ∙ ap (transferAt targets) (zero-add i)
+plan-at targets i h = getD-listed (transferAt targets) 0 secondsOfHour i (pos 0) h ∙ ap (transferAt targets) (zero-add i)
 
-pub length-plan : (targets : List ℤ) → length (planOf targets) ≡ 3600
+pub length-plan : (targets : List ℤ) → length (planOf targets) ≡ secondsOfHour
 unfolding planOf
-length-plan targets = length-listed (transferAt targets) 0 3600
+length-plan targets = length-listed (transferAt targets) 0 secondsOfHour
 
-pub plan-inside : (targets : List ℤ) → allInRange (minus 100000) (pos 100000) targets ≡ true → allInRange (minus 100000) (pos 100000) (planOf targets) ≡ true
+pub plan-inside : (targets : List ℤ) → areTransfers targets ≡ true → areTransfers (planOf targets) ≡ true
 plan-inside targets e =
     let n = length-plan targets in
-    inside-all (minus 100000) (pos 100000) (planOf targets)
+    inside-all (minus mostTransfer) (pos mostTransfer) (planOf targets)
     (λ i h. let at = plan-at targets i (omega arith) in rw at (within-in (transfer-within targets i e)))
 
 -- a plan of five targets in their range is not refused
 pub plan-granted : (targets run : List ℤ) → PlanFit targets (length run) → planLeft targets run ≡ planOf targets
 unfolding planLeft planRefusal
-plan-granted targets run f = rw (eq-eqb (length targets) 5 (f .five), eq-eqb (length run) 3600 (f .long), f .inside)
+plan-granted targets run f = rw (eq-eqb (length targets) 5 (f .five), eq-eqb (length run) secondsOfHour (f .long), f .inside)
 
 -- an hour whose targets are all 0 transfers nothing
 pub transfer-none : (targets : List ℤ) (i : ℕ) → ((q : ℕ) → getD targets q (pos 0) ≡ pos 0) → transferAt targets i ≡ pos 0
 unfolding transferAt
-transfer-none targets i zeros = ap₂ (λ (last target : ℤ). rampAt last target (i % 900 + 1)) (zeros (i / 900)) (zeros (i / 900 + 1)) ∙ ramp-level (pos 0) (i % 900 + 1)
+transfer-none targets i zeros = ap₂ (λ (last target : ℤ). rampAt last target (i % secondsOfQuarter + 1)) (zeros (i / secondsOfQuarter)) (zeros (i / secondsOfQuarter + 1)) ∙ ramp-level (pos 0) (i % secondsOfQuarter + 1)

@@ -3,8 +3,13 @@ ghost use mathlib.Core.Path.{_≡_};
 ghost use Prim.Native.Nat.{ℕ, _≤_, _<_};
 ghost use lib.ListN.{length};
 ghost use Rattle.whole.specs.Whole.{Within};
-ghost use Rattle.ramp.specs.Ramp.{areTargets, rampAt, quarter, rampRefusal, rampLeft, planOf, planRefusal, planLeft};
+ghost use Rattle.units.specs.Limits.{mostTransfer, secondsOfQuarter};
+ghost use Rattle.units.specs.Units.{kilowatts};
+ghost use Rattle.ramp.specs.Ramp.{rampAt, rampOf, rampRefusal, rampLeft, planOf, planRefusal, planLeft};
 use units::Kilowatts;
+use units::limits;
+
+const LEAST_TRANSFER: i64 = -limits::TRANSFER;
 
 // Fills a run of 900 with a quarter's seconds 1 to 900; a refused run stays as it was.
 pub fn ramp(last: Kilowatts, target: Kilowatts, seconds: &mut [i64]) -> u8
@@ -31,25 +36,22 @@ pub fn plan(targets: &[i64], seconds: &mut [i64]) -> u8
     k
 }
 
-fn are_targets(last: i64, target: i64) -> bool
-    ensures { λ r. ⌜ r ≡ areTargets last target ⌝ }
-{
-    whole::within(last, -100_000, 100_000) & whole::within(target, -100_000, 100_000)
-}
-
 // 1, 10; 0 lets the ramp through.
 fn refusal(last: i64, target: i64, places: usize) -> u8
-    ensures { λ r. ⌜ r ≡ rampRefusal (record { 0 = last }) (record { 0 = target }) places ⌝ }
+    ensures { λ r. ⌜ r ≡ rampRefusal (kilowatts last) (kilowatts target) places ⌝ }
 {
-    let length = whole::unless(places == 900, units::refusals::WRONG_LENGTH, 0);
-    let targets = whole::unless(are_targets(last, target), units::refusals::BAD_TRANSFER, 0);
-    whole::or_else(length, targets)
+    let length = places == limits::QUARTER;
+    let on_target = whole::within(target, LEAST_TRANSFER, limits::TRANSFER);
+    let on_last = whole::within(last, LEAST_TRANSFER, limits::TRANSFER);
+    let rest = whole::unless(on_target, units::refusals::BAD_TRANSFER, 0);
+    let transfers = whole::unless(on_last, units::refusals::BAD_TRANSFER, rest);
+    whole::unless(length, units::refusals::WRONG_LENGTH, transfers)
 }
 
 // Seconds 1 to 900, from place 0 on: those that move, then the target.
 fn fill(last: i64, target: i64, seconds: &mut [i64])
-    requires { ⌜ (length (now seconds) ≡ 900) × (Within 100000 last × Within 100000 target) ⌝ }
-    ensures { λ r. ⌜ now (seconds .exit) ≡ quarter last target ⌝ }
+    requires { ⌜ (length (now seconds) ≡ secondsOfQuarter) × (Within mostTransfer last × Within mostTransfer target) ⌝ }
+    ensures { λ r. ⌜ now (seconds .exit) ≡ rampOf last target ⌝ }
 {
     let moving = moving(last, target);
     let mut i = 0;
@@ -58,7 +60,7 @@ fn fill(last: i64, target: i64, seconds: &mut [i64])
         seconds[i] = power;
         i += 1;
     }
-    while i < 900 {
+    while i < limits::QUARTER {
         seconds[i] = target;
         i += 1;
     }
@@ -68,11 +70,11 @@ fn fill(last: i64, target: i64, seconds: &mut [i64])
 fn plan_refusal(targets: &[i64], places: usize) -> u8
     ensures { λ r. ⌜ r ≡ planRefusal (now (targets .entry)) places ⌝ }
 {
-    let long = (targets.len() == 5) & (places == 3600);
-    let length = whole::unless(long, units::refusals::WRONG_LENGTH, 0);
-    let inside = whole::all_within(targets, -100_000, 100_000);
+    let inside = whole::all_within(targets, LEAST_TRANSFER, limits::TRANSFER);
     let transfers = whole::unless(inside, units::refusals::BAD_TRANSFER, 0);
-    whole::or_else(length, transfers)
+    let long = places == limits::SECONDS;
+    let rest = whole::unless(long, units::refusals::WRONG_LENGTH, transfers);
+    whole::unless(targets.len() == 5, units::refusals::WRONG_LENGTH, rest)
 }
 
 // The four quarters, one after the other.
@@ -85,8 +87,8 @@ fn fill_hour(targets: &[i64], seconds: &mut [i64])
         let last = targets[q];
         let next = q + 1;
         let target = targets[next];
-        let start = q * 900;
-        let end = start + 900;
+        let start = q * limits::QUARTER;
+        let end = start + limits::QUARTER;
         fill(last, target, &mut seconds[start..end]);
         q = next;
     }
@@ -104,7 +106,7 @@ fn moving(last: i64, target: i64) -> usize
 
 // Second n of the quarter, while the ramp lasts.
 fn ramping(last: i64, target: i64, n: usize) -> i64
-    requires { ⌜ Within 100000 last × (Within 100000 target × (n ≤ 300)) ⌝ }
+    requires { ⌜ Within mostTransfer last × (Within mostTransfer target × (n ≤ 300)) ⌝ }
     ensures { λ r. ⌜ r ≡ rampAt last target n ⌝ }
 {
     last + whole::away((target - last) * (n as i64), 300)

@@ -1,5 +1,4 @@
 -- The laws that belong to no one function; `pub` are those that crates above cite.
-mod Laws
-pub mod Contracts
+pub mod Laws
 mod Determined
 mod RefusedKeeps

@@ -1,3 +1,2 @@
--- What the program `desk` does with a chunk, and at the input's end.
-pub mod Replies
-pub mod Transcript
+-- What the program `desk` does with a chunk.
+pub mod Inner

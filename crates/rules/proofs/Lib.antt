@@ -1,4 +1,4 @@
--- The laws that belong to no one function.
-mod Laws
+-- The laws that belong to no one function; `pub` are those that crates above cite.
+pub mod Laws
 mod Determined
 mod RefusedKeeps

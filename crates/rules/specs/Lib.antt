@@ -1,3 +1,2 @@
 -- The questions about one rule.
-pub mod Numbers
 pub mod Rules

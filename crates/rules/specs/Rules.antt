@@ -1,58 +1,76 @@
 -- The questions about one rule: each is the answer of the library that has it. Their numbers are given as single ones, in order.
-use Prim.Native.Nat.{ℕ, _/_}
+use Prim.Native.Nat.{ℕ, _/_, _%_}
+use mathlib.Core.Bool.{Bool}
 use mathlib.Core.List.{List, [], _∷_}
+use lib.Dec.{eqb}
 use lib.IntN.{ℤ, pos}
-use lib.ListN.{length, take, drop}
-use Rattle.units.specs.Units.{inKilowatts}
+use lib.ListN.{length, take, drop, replicate}
+use Rattle.whole.specs.Choice.{pick, unless}
+use Rattle.whole.specs.Runs.{listed}
+use Rattle.units.specs.Refusals.{wrongLength}
+use Rattle.units.specs.Units.{kilowatts, megawatts, millihertz, dollars, inKilowatts}
 use Rattle.curve.specs.Curve.{curveAt}
 use Rattle.score.specs.Score.{secondScore}
-use Rattle.score.specs.Rolling.{hourlyRate}
+use Rattle.rate.specs.Rolling.{hourlyRate}
 use Rattle.bands.specs.Bands.{bandsRefusal, factorAnswer}
+use Rattle.bands.specs.declared.Factored.{Factored}
 use Rattle.fees.specs.Fees.{feeAnswer, qualityAnswer, energyAnswer}
-use Rattle.fees.specs.Loss.{lossAnswer}
-use Rattle.words.specs.Numbers.{number, byteOf, column}
+use Rattle.loss.specs.Loss.{lossAnswer}
+use Rattle.numbers.specs.Numbers.{number, byteOf, column}
 use Rattle.words.specs.Replies.{Reply, reply}
-use Rattle.rules.specs.Numbers.{kilowatts, dollars, scoresIn}
+use Rattle.words.specs.declared.Few.{Few}
 use Rattle.words.specs.declared.Rule.{Rule}
 use Rattle.words.specs.declared.Rule.the-variants.{Kilowatts, Curve, Score, Rate, Bands, Factor, Fee, Quality, Energy, Loss}
 
 -- MEGAWATTS: refusal, kilowatts
 unfoldable pub kilowattsReply : List ℤ → Reply
-kilowattsReply n = let a = inKilowatts (record { 0 = number n 0 }) in reply (a .refusal) (a .power .0 ∷ [])
+kilowattsReply n = let a = inKilowatts (megawatts (number n 0)) in reply (a .refusal) (a .power .0 ∷ [])
 
 -- FREQUENCY: refusal, upper, lower
 unfoldable pub curveReply : List ℤ → Reply
-curveReply n = let a = curveAt (record { 0 = number n 0 }) in reply (a .refusal) (a .upper ∷ a .lower ∷ [])
+curveReply n = let a = curveAt (millihertz (number n 0)) in reply (a .refusal) (a .upper ∷ a .lower ∷ [])
 
 -- POWER TRANSFER CAPACITY FREQUENCY: refusal, score
 unfoldable pub scoreReply : List ℤ → Reply
 scoreReply n =
-    let a = secondScore (kilowatts n 0) (kilowatts n 1) (kilowatts n 2) (record { 0 = number n 3 }) in reply (a .refusal) (pos (a .score) ∷ [])
+    let a = secondScore (kilowatts (number n 0)) (kilowatts (number n 1)) (kilowatts (number n 2)) (millihertz (number n 3)) in reply (a .refusal) (pos (a .score) ∷ [])
+
+-- numbers as scores: one that no byte holds is taken as 255, which is no score
+unfoldable pub scoresIn : List ℤ → ℕ → List ℕ
+scoresIn n many = listed (λ i. byteOf (number n i)) 0 many
 
 -- 3,600 scores: refusal, rate
 unfoldable pub rateReply : List ℤ → Reply
-rateReply t = let a = hourlyRate (scoresIn t 3600) in reply (a .refusal) (pos (a .rate) ∷ [])
+rateReply t = let a = hourlyRate (scoresIn t (length t)) in reply (a .refusal) (pos (a .rate) ∷ [])
 
 -- how many pairs there are
 abbrev pub pairs : List ℤ → ℕ
 pairs n = length n / 2
 
+-- whether each number has its other
+abbrev pub arePairs : List ℤ → Bool
+arePairs n = eqb (length n % 2) 0
+
 -- pairs THRESHOLD FACTOR: refusal
 unfoldable pub bandsReply : List ℤ → Reply
-bandsReply n = reply (bandsRefusal (column n 0 (pairs n)) (column n 1 (pairs n))) []
+bandsReply n = reply (unless (arePairs n) wrongLength (bandsRefusal (column n 0 (pairs n)) (column n 1 (pairs n)))) []
+
+-- the factor of a rate by pairs
+unfoldable pub factorIn : List ℤ → ℕ → Factored
+factorIn n rate =
+    pick (arePairs n) (factorAnswer (column n 0 (pairs n)) (column n 1 (pairs n)) rate) (record { refusal = wrongLength; factor = pos 0 })
 
 -- RATE, pairs THRESHOLD FACTOR: refusal, factor
 unfoldable pub factorReply : List ℤ → List ℤ → Reply
-factorReply n t =
-    let a = factorAnswer (column t 0 (pairs t)) (column t 1 (pairs t)) (byteOf (number n 0)) in reply (a .refusal) (a .factor ∷ [])
+factorReply n t = let a = factorIn t (byteOf (number n 0)) in reply (a .refusal) (a .factor ∷ [])
 
 -- PRICE CAPACITY: refusal, dollars
 unfoldable pub feeReply : List ℤ → Reply
-feeReply n = let a = feeAnswer (number n 0) (kilowatts n 1) in reply (a .refusal) (a .dollars .0 ∷ [])
+feeReply n = let a = feeAnswer (number n 0) (kilowatts (number n 1)) in reply (a .refusal) (a .dollars .0 ∷ [])
 
 -- CAPACITY-FEE PERFORMANCE-FEE FACTOR: refusal, dollars
 unfoldable pub qualityReply : List ℤ → Reply
-qualityReply n = let a = qualityAnswer (dollars n 0) (dollars n 1) (number n 2) in reply (a .refusal) (a .dollars .0 ∷ [])
+qualityReply n = let a = qualityAnswer (dollars (number n 0)) (dollars (number n 1)) (number n 2) in reply (a .refusal) (a .dollars .0 ∷ [])
 
 -- DISCHARGE CHARGE, the 4 quarter targets, 3,600 powers: refusal, dollars
 unfoldable pub energyReply : List ℤ → List ℤ → Reply
@@ -89,3 +107,7 @@ fieldCount Fee = 1
 fieldCount Quality = 1
 fieldCount Energy = 1
 fieldCount Loss = 3
+
+-- at most three of them as the code holds them
+abbrev pub few : ℕ → ℕ → ℤ → ℤ → ℤ → Few
+few refusal count a b c = record { refusal = refusal; count = count; values = a ∷ b ∷ c ∷ replicate 9 (pos 0) }

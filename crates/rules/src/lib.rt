@@ -1,35 +1,48 @@
-// The questions about one rule, each answered by a refusal and a few fields: the answer of the library that has the rule.
+// The questions about one rule, each answered by a refusal and a few fields: the answer of the library that has the
+// rule.
 ghost use Prim.Native.Nat.{_≤_};
 ghost use mathlib.Core.Path.{_≡_};
 ghost use lib.ListN.{length};
+ghost use Rattle.units.specs.Limits.{secondsOfHour};
 ghost use Rattle.bands.specs.Bands.{factorAnswer};
 ghost use Rattle.words.specs.Replies.{boxed};
-ghost use Rattle.words.specs.Numbers.{column};
-ghost use Rattle.rules.specs.Numbers.{scoresIn};
-ghost use Rattle.rules.specs.Rules.{pairs, kilowattsReply, curveReply, scoreReply, rateReply, bandsReply, factorReply, feeReply, qualityReply, energyReply, lossReply, ruleReply};
+ghost use Rattle.numbers.specs.Numbers.{column};
+ghost use Rattle.rules.specs.Rules.{few, scoresIn, factorIn, kilowattsReply, curveReply, scoreReply, rateReply, bandsReply};
+ghost use Rattle.rules.specs.Rules.{factorReply, feeReply, qualityReply, energyReply, lossReply, ruleReply};
 use bands::Factored;
 use units::Dollars;
 use units::Kilowatts;
 use units::Megawatts;
 use units::Millihertz;
+use units::limits;
+use units::refusals;
 use words::Few;
 use words::Rule;
 
-mod few;
+// An answer of at most three fields: the refusal's number, the fields, zeros after them.
+fn few(refusal: u8, count: usize, a: i64, b: i64, c: i64) -> Few
+    ensures { λ r. ⌜ r ≡ few refusal count a b c ⌝ }
+{
+    Few {
+        refusal,
+        count,
+        values: [a, b, c, 0, 0, 0, 0, 0, 0, 0, 0, 0],
+    }
+}
 
 fn kilowatts(head: [i64; 12]) -> Few
     ensures { λ r. ⌜ r ≡ boxed (kilowattsReply head) ⌝ }
 {
     let converted = units::to_kilowatts(Megawatts(head[0]));
     let power = converted.power;
-    few::one(converted.refusal, power.0)
+    few(converted.refusal, 1, power.0, 0, 0)
 }
 
 fn curve(head: [i64; 12]) -> Few
     ensures { λ r. ⌜ r ≡ boxed (curveReply head) ⌝ }
 {
     let bounds = curve::curve(Millihertz(head[0]));
-    few::two(bounds.refusal, bounds.upper, bounds.lower)
+    few(bounds.refusal, 2, bounds.upper, bounds.lower, 0)
 }
 
 fn score(head: [i64; 12]) -> Few
@@ -41,7 +54,7 @@ fn score(head: [i64; 12]) -> Few
         Kilowatts(head[2]),
         Millihertz(head[3]),
     );
-    few::one(scored.refusal, scored.score as i64)
+    few(scored.refusal, 1, scored.score as i64, 0, 0)
 }
 
 fn fee(head: [i64; 12]) -> Few
@@ -49,7 +62,7 @@ fn fee(head: [i64; 12]) -> Few
 {
     let charged = fees::fee(head[0], Kilowatts(head[1]));
     let dollars = charged.dollars;
-    few::one(charged.refusal, dollars.0)
+    few(charged.refusal, 1, dollars.0, 0, 0)
 }
 
 fn quality(head: [i64; 12]) -> Few
@@ -57,17 +70,17 @@ fn quality(head: [i64; 12]) -> Few
 {
     let charged = fees::quality_part(Dollars(head[0]), Dollars(head[1]), head[2]);
     let dollars = charged.dollars;
-    few::one(charged.refusal, dollars.0)
+    few(charged.refusal, 1, dollars.0, 0, 0)
 }
 
 fn loss(head: [i64; 12]) -> Few
     ensures { λ r. ⌜ r ≡ boxed (lossReply head) ⌝ }
 {
-    let loss = fees::loss_fee(head[0], head[1], head[2], head[3]);
+    let loss = loss::loss_fee(head[0], head[1], head[2], head[3]);
     let basic = loss.basic;
     let excess = loss.excess;
     let total = loss.total;
-    few::three(loss.refusal, basic.0, excess.0, total.0)
+    few(loss.refusal, 3, basic.0, excess.0, total.0)
 }
 
 fn fill_scores(numbers: &[i64], scores: &mut [u8])
@@ -75,18 +88,29 @@ fn fill_scores(numbers: &[i64], scores: &mut [u8])
 {
     let mut i = 0;
     while i < scores.len() {
-        scores[i] = words::byte_of(whole::at(numbers, i));
+        scores[i] = numbers::byte_of(whole::at(numbers, i));
         i += 1;
     }
+}
+
+// The rate of 3,600 scores.
+fn rated(tail: &[i64]) -> Few
+    requires { ⌜ length (now tail) ≡ secondsOfHour ⌝ }
+    ensures { λ r. ⌜ r ≡ boxed (rateReply (now (tail .entry))) ⌝ }
+{
+    let mut scores = [0u8; limits::SECONDS];
+    fill_scores(tail, &mut scores);
+    let rated = rate::hourly_rate(&scores);
+    few(rated.refusal, 1, rated.rate as i64, 0, 0)
 }
 
 fn rate(tail: &[i64]) -> Few
     ensures { λ r. ⌜ r ≡ boxed (rateReply (now (tail .entry))) ⌝ }
 {
-    let mut scores = [0u8; 3600];
-    fill_scores(tail, &mut scores);
-    let rated = score::hourly_rate(&scores);
-    few::one(rated.refusal, rated.rate as i64)
+    if tail.len() != limits::SECONDS {
+        return few(refusals::WRONG_LENGTH, 1, 0, 0, 0);
+    }
+    rated(tail)
 }
 
 fn energy(head: [i64; 12], tail: &[i64]) -> Few
@@ -96,7 +120,7 @@ fn energy(head: [i64; 12], tail: &[i64]) -> Few
     let charge = head[1];
     let charged = fees::energy_fee(tail, &head[2..6], discharge, charge);
     let dollars = charged.dollars;
-    few::one(charged.refusal, dollars.0)
+    few(charged.refusal, 1, dollars.0, 0, 0)
 }
 
 // The factor of a rate by n pairs.
@@ -106,19 +130,26 @@ fn found(numbers: &[i64], n: usize, rate: u8) -> Factored
 {
     let mut thresholds = [0i64; 100];
     let mut factors = [0i64; 100];
-    words::column(numbers, false, &mut thresholds);
-    words::column(numbers, true, &mut factors);
+    numbers::column(numbers, false, &mut thresholds);
+    numbers::column(numbers, true, &mut factors);
     bands::factor(&thresholds[..n], &factors[..n], rate)
 }
 
-// The same by all pairs that there are; more than 16 are refused whatever they say.
+// The same by all pairs that there are; a number that has no other is refused with 1, and more than 16 pairs with 5,
+// whatever they say.
 fn looked_up(numbers: &[i64], rate: u8) -> Factored
-    ensures { λ r. ⌜ r ≡ factorAnswer (column (now (numbers .entry)) 0 (pairs (now (numbers .entry)))) (column (now (numbers .entry)) 1 (pairs (now (numbers .entry)))) rate ⌝ }
+    ensures { λ r. ⌜ r ≡ factorIn (now (numbers .entry)) rate ⌝ }
 {
     let n = numbers.len() / 2;
+    if numbers.len() % 2 != 0 {
+        return Factored {
+            refusal: refusals::WRONG_LENGTH,
+            factor: 0,
+        };
+    }
     if 100 < n {
         return Factored {
-            refusal: units::refusals::BAD_BANDS,
+            refusal: refusals::BAD_BANDS,
             factor: 0,
         };
     }
@@ -129,18 +160,19 @@ fn bands(tail: &[i64]) -> Few
     ensures { λ r. ⌜ r ≡ boxed (bandsReply (now (tail .entry))) ⌝ }
 {
     let factored = looked_up(tail, 0);
-    few::none(factored.refusal)
+    few(factored.refusal, 0, 0, 0, 0)
 }
 
 fn factor(head: [i64; 12], tail: &[i64]) -> Few
     ensures { λ r. ⌜ r ≡ boxed (factorReply head (now (tail .entry))) ⌝ }
 {
-    let rate = words::byte_of(head[0]);
+    let rate = numbers::byte_of(head[0]);
     let factored = looked_up(tail, rate);
-    few::one(factored.refusal, factored.factor)
+    few(factored.refusal, 1, factored.factor, 0, 0)
 }
 
-// THE FAMILY: the answer to a question about one rule, by its single numbers and by those after them.
+// THE FAMILY: the answer to a question about one rule, by its single numbers and by those after them; 1 where those
+// after them are not as many as the rule takes.
 pub fn answer(rule: Rule, head: [i64; 12], tail: &[i64]) -> Few
     ensures { λ r. ⌜ r ≡ boxed (ruleReply rule head (now (tail .entry))) ⌝ }
 {

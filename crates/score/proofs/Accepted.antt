@@ -1,8 +1,8 @@
--- What fits is not turned away, and its answer is the paper's formula: a second, a run of seconds, an hour's scores. Stated over the contracts as the
+-- What fits is not turned away, and its answer is the paper's formula: a second, a run of seconds. Stated over the contracts as the
 -- toolchain reads them; by the tests of each refusal. Assumes nothing.
 use Prim.Native.Nat.{ℕ, _<_}
-use mathlib.Core.Path.{_≡_, sym, ap, _∙_}
-use mathlib.Core.List.{List, []}
+use mathlib.Core.Path.{_≡_, ap, _∙_}
+use mathlib.Core.List.{List}
 use native.Mathlib.Nat.{zero-add}
 use lib.IntN.{ℤ, pos}
 use lib.ListN.{length, getD}
@@ -13,22 +13,16 @@ use borrow.Fn.Kinds.{Dens, endedOf}
 use Rattle.whole.proofs.Choice.{kept-new}
 use Rattle.whole.proofs.Runs.{length-listed, getD-listed}
 use Rattle.units.specs.declared.Kilowatts.{Kilowatts}
-use Rattle.units.specs.declared.Millihertz.{Millihertz}
 use Rattle.curve.specs.Curve.{upperAt, lowerAt}
 use Rattle.score.specs.Score.{percentOutput, scoreOf, judgedBy}
 use Rattle.score.specs.Run.{runScoreAt, runScores, runLeft}
-use Rattle.score.specs.Rolling.{rolling, smallest}
 use Rattle.score.specs.declared.Scored.{Scored}
-use Rattle.score.specs.declared.Rated.{Rated}
 use Rattle.score.proofs.Laws as second
 use Rattle.score.proofs.Run.{RunFit, fit-run, run-second}
-use Rattle.score.proofs.Rates as rates
 use Rattle.score.proofs.second_score.Reads as second-score
 use Rattle.score.proofs.second_score.Kinds as second-score-kinds
 use Rattle.score.proofs.run_scores.Reads as run-scores
 use Rattle.score.proofs.run_scores.Kinds as run-scores-kinds
-use Rattle.score.proofs.hourly_rate.Reads as hourly-rate
-use Rattle.score.proofs.hourly_rate.Kinds as hourly-rate-kinds
 
 -- the paper's score of a power, its transfer, the capacity and a frequency
 abbrev pub plainScore : ℤ → ℤ → ℤ → ℤ → ℕ
@@ -40,10 +34,6 @@ pub second-score-accepted : (κs : Lfts 0) (a : Dens κs second-score-kinds.ps) 
 unfolding judgedBy
 second-score-accepted κs a x s p f = p ∙ second.second-granted _ _ _ _ (second.fit-second _ _ _ _ f)
 
-pub hourly-rate-accepted : (κs : Lfts 1) (a : Dens κs hourly-rate-kinds.ps) (x : Rated) (s : AtExit (endedOf 1 hourly-rate-kinds.ps hourly-rate-kinds.r) κs)
-    → hourly-rate.Post κs a x s → rates.Fit (now (a .0)) → x ≡ record { refusal = 0; rate = smallest (rolling [] (now (a .0))) }
-hourly-rate-accepted κs a x s p f = p ∙ rates.rate-granted (now (a .0)) f
-
 -- ---- a run of seconds
 
 -- a run that holds the paper's score of each second
@@ -52,7 +42,7 @@ pub record Scores (powers frequencies transfers : List ℤ) (capacity : Kilowatt
   pub second : (i : ℕ) → i < length powers → getD scores i 0 ≡ plainScore (getD powers i (pos 0)) (getD transfers i (pos 0)) (capacity .0) (getD frequencies i (pos 0))
 
 module _ (powers frequencies transfers : List ℤ) (capacity : Kilowatts) (places : ℕ) (f : RunFit powers frequencies transfers capacity places) where
-  scores-plain : Scores powers frequencies transfers capacity (runScores powers frequencies transfers capacity)
+  pub scores-plain : Scores powers frequencies transfers capacity (runScores powers frequencies transfers capacity)
   unfolding runScores runScoreAt judgedBy
   scores-plain =
       let at = runScoreAt powers frequencies transfers capacity in

@@ -1,13 +1,14 @@
 -- Half up by the inverse is half up by a division: n (k / d + 1) / k is n / d where n d is less than k. By quotient and remainder of n and of k
 -- over d. Assumes nothing.
 use Prim.Native.Nat.{ℕ, zero, suc, _+_, _*_, _/_, _%_, _≤_, _<_}
-use mathlib.Core.Path.{_≡_, refl, sym, ap, _∙_}
+use mathlib.Core.Path.{_≡_}
 use native.Mathlib.Omega.{arith}
 use native.Mathlib.Nat.{div-add-mod', div-mul-le-self, mod-lt, div-eq-of-lt-le, mul-le-mul-left, mul-le-mul-right, mul-le-mul, lt-of-mul-lt-mul-left}
 use lib.IntN.{ℤ, pos, natAbs, _*ℤ_}
 use Rattle.whole.specs.Whole.{up, down, minus, halfUp, nearest}
 use Rattle.whole.proofs.Signed.{size, times}
 use Rattle.whole.proofs.Rounding.{sign-up, sign-down}
+use Rattle.units.specs.Limits.{mostCapacity, mostPower, mostTransfer}
 use Rattle.score.specs.Inverse.{inverseOf}
 
 -- a number below k / d, or at most k / d where the division of k leaves something
@@ -42,7 +43,7 @@ pub record Product (n c : ℕ) : Type 0 where
   pub fits : n * inverseOf c < 18446744073709551616
   pub most : n / (2 * c) ≤ 1000000
 
-pub inverse-product : (n c : ℕ) → n ≤ 60100000 → 32 ≤ c → c ≤ 100000 → Product n c
+pub inverse-product : (n c : ℕ) → n ≤ (mostPower + mostTransfer) * 200 + mostCapacity → 32 ≤ c → c ≤ mostCapacity → Product n c
 unfolding inverseOf
 inverse-product n c h least most =
     let k : ℕ = 17592186044416 in

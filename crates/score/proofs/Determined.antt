@@ -7,8 +7,6 @@ use Rattle.score.proofs.second_score.Reads as second-score
 use Rattle.score.proofs.second_score.Kinds as second-score-kinds
 use Rattle.score.proofs.run_scores.Reads as run-scores
 use Rattle.score.proofs.run_scores.Kinds as run-scores-kinds
-use Rattle.score.proofs.hourly_rate.Reads as hourly-rate
-use Rattle.score.proofs.hourly_rate.Kinds as hourly-rate-kinds
 
 second-score-determined : Determined 0 second-score-kinds.ps second-score-kinds.r second-score.Post
 second-score-determined κs a x y s t p q = p ∙ sym q
@@ -18,6 +16,3 @@ run-scores-determined κs a x y s t p q = p .0 ∙ sym (q .0)
 
 run-scores-run-determined : LeftDetermined 4 run-scores-kinds.ps run-scores-kinds.r (λ κs s. now (s .1 .1 .1 .1 .0)) run-scores.Post
 run-scores-run-determined κs a x y s t p q = p .1 ∙ sym (q .1)
-
-hourly-rate-determined : Determined 1 hourly-rate-kinds.ps hourly-rate-kinds.r hourly-rate.Post
-hourly-rate-determined κs a x y s t p q = p ∙ sym q

@@ -1,25 +1,26 @@
 -- What a second's score is, for the crates above: at most 100 whatever was handed in, and the paper's formula where it is not refused. By the
 -- tests of its refusal. Assumes nothing.
 use Prim.Native.Nat.{ℕ, _+_, _-_, _≤_, max}
-use mathlib.Core.Path.{_≡_, sym, ap, _∙_}
+use mathlib.Core.Path.{_≡_, refl, sym, ap, _∙_}
 use mathlib.Core.Bool.{true, false}
+use mathlib.Core.List.{[], _∷_}
 use native.Mathlib.Omega.{arith}
 use lib.Dec.{eqb}
-use lib.IntN.{ℤ, pos, _-ℤ_}
+use lib.IntN.{ℤ, _-ℤ_}
 use lib.Signed.{leZ}
 use borrow.Author.Tests.{eqb-true, eq-eqb}
-use Rattle.whole.specs.Choice.{unless}
-use Rattle.whole.specs.Whole.{up, down, minus, inRange, apart}
-use Rattle.whole.proofs.Choice.{by-test, and-both, passed, both-passed}
+use Rattle.whole.specs.Whole.{up, down, inRange, apart}
+use Rattle.whole.proofs.Choice.{by-test, and-both, all-passed}
 use Rattle.whole.proofs.Signed.{signed, size, difference}
-use Rattle.units.specs.Refusals.{badCapacity, badTransfer}
+use Rattle.units.specs.Refusals.{badCapacity, badTransfer, badReading}
+use Rattle.units.specs.Limits.{isCapacity, isPower, isFrequency, isTransfer, mostScore}
 use Rattle.units.specs.declared.Kilowatts.{Kilowatts}
 use Rattle.units.specs.declared.Millihertz.{Millihertz}
 use Rattle.curve.specs.Curve.{upperAt, lowerAt}
-use Rattle.score.specs.Score.{percentOutput, scoreOf, isCapacity, isTransfer, isReading, secondRefusal, judgedBy, secondScore}
+use Rattle.score.specs.Score.{percentOutput, scoreOf, isReading, secondRefusal, judgedBy, secondScore}
 use Rattle.score.specs.declared.Scored.{Scored}
 
-pub score-most : (output upper lower : ℤ) → scoreOf output upper lower ≤ 100
+pub score-most : (output upper lower : ℤ) → scoreOf output upper lower ≤ mostScore
 unfolding scoreOf
 score-most output upper lower =
     by-test (inRange lower upper output)
@@ -63,20 +64,16 @@ score-outside output upper lower order =
 pub record Fit (p t c : Kilowatts) (f : Millihertz) : Type 0 where
   pub capacity : isCapacity (c .0) ≡ true
   pub transfer : isTransfer (t .0) ≡ true
-  pub power : inRange (minus 200000) (pos 200000) (p .0) ≡ true
-  pub frequency : inRange (pos 55000) (pos 65000) (f .0) ≡ true
+  pub power : isPower (p .0) ≡ true
+  pub frequency : isFrequency (f .0) ≡ true
 
 module _ (power transfer capacity : Kilowatts) (frequency : Millihertz) where
   pub second-fit : secondRefusal power transfer capacity frequency ≡ 0 → Fit power transfer capacity frequency
   unfolding secondRefusal
   second-fit e =
-      let a = both-passed (unless (isCapacity (capacity .0)) badCapacity 0) _ e in
-      let b = both-passed (unless (isTransfer (transfer .0)) badTransfer 0) _ (a .1) in
-      let c = passed (isCapacity (capacity .0)) 1 0 (a .0) in
-      let t = passed (isTransfer (transfer .0)) 9 0 (b .0) in
-      let r = passed (isReading (power .0) (frequency .0)) 3 0 (b .1) in
-      let q = and-both (inRange (minus 200000) (pos 200000) (power .0)) (inRange (pos 55000) (pos 65000) (frequency .0)) (r .0) in
-      record { capacity = c .0; transfer = t .0; power = q .0; frequency = q .1 }
+      let p = all-passed ((isCapacity (capacity .0), badCapacity) ∷ (isTransfer (transfer .0), badTransfer) ∷ (isReading (power .0) (frequency .0), badReading) ∷ []) refl e in
+      let q = and-both (isPower (power .0)) (isFrequency (frequency .0)) (p .1 .1 .0) in
+      record { capacity = p .0; transfer = p .1 .0; power = q .0; frequency = q .1 }
 
   pub fit-second : Fit power transfer capacity frequency → secondRefusal power transfer capacity frequency ≡ 0
   unfolding secondRefusal

@@ -2,7 +2,6 @@
 pub mod Laws
 mod ByInverse
 pub mod Run
-pub mod Rates
 pub mod Accepted
 mod Determined
 mod RefusedKeeps

@@ -2,7 +2,7 @@
 use Prim.Native.Nat.{ℕ, _<_}
 use mathlib.Core.Path.{_≡_, refl, sym, ap, _∙_}
 use mathlib.Core.Bool.{Bool, true, false, _&&_}
-use mathlib.Core.List.{List}
+use mathlib.Core.List.{List, [], _∷_}
 use native.Mathlib.Omega.{arith}
 use lib.Dec.{eqb}
 use lib.IntN.{ℤ, pos}
@@ -10,13 +10,16 @@ use lib.ListN.{length, getD}
 use borrow.Author.Tests.{eqb-true, eq-eqb}
 use Rattle.whole.specs.Choice.{unless}
 use Rattle.whole.specs.Folds.{allTo}
-use Rattle.whole.specs.Whole.{minus, inRange, allInRange}
+use Rattle.whole.specs.Whole.{minus, allInRange}
 use Rattle.whole.specs.Runs.{listed}
-use Rattle.whole.proofs.Choice.{and-both, passed}
+use Rattle.whole.proofs.Choice.{and-both, all-passed}
 use Rattle.whole.proofs.Folds.{all-and}
 use Rattle.whole.proofs.Sums.{all-inside}
+use Rattle.units.specs.Refusals.{wrongLength, badCapacity, badTransfer, badReading}
+use Rattle.units.specs.Limits.{isCapacity, mostPower, isPower, arePowers, leastFrequency, mostFrequency, isFrequency, areFrequencies, mostTransfer, isTransfer, areTransfers}
+use Rattle.units.specs.Units.{kilowatts, millihertz}
 use Rattle.units.specs.declared.Kilowatts.{Kilowatts}
-use Rattle.score.specs.Score.{isCapacity, secondRefusal}
+use Rattle.score.specs.Score.{secondRefusal}
 use Rattle.score.specs.Run.{secondFits, fitAt, secondsRefusal, runRefusal, runScoreAt, runScores}
 use Rattle.score.proofs.Laws.{fit-second}
 
@@ -25,9 +28,9 @@ pub record RunFit (powers frequencies transfers : List ℤ) (capacity : Kilowatt
   pub as-transfers : length transfers ≡ length powers
   pub as-places : places ≡ length powers
   pub capacity-fits : isCapacity (capacity .0) ≡ true
-  pub transfers-fit : allInRange (minus 100000) (pos 100000) transfers ≡ true
-  pub powers-fit : allInRange (minus 200000) (pos 200000) powers ≡ true
-  pub frequencies-fit : allInRange (pos 55000) (pos 65000) frequencies ≡ true
+  pub transfers-fit : areTransfers transfers ≡ true
+  pub powers-fit : arePowers powers ≡ true
+  pub frequencies-fit : areFrequencies frequencies ≡ true
 
 module _ (powers frequencies transfers : List ℤ) (capacity : Kilowatts) (places : ℕ) where
   pub run-fit : runRefusal powers frequencies transfers capacity places ≡ 0 → RunFit powers frequencies transfers capacity places
@@ -35,20 +38,17 @@ module _ (powers frequencies transfers : List ℤ) (capacity : Kilowatts) (place
   run-fit e =
       let f = eqb (length frequencies) (length powers) in
       let t = eqb (length transfers) (length powers) in
-      let p = eqb places (length powers) in
-      let long = passed ((f && t) && p) 0 _ e in
-      let capacity = passed (isCapacity (capacity .0)) 1 _ (long .1) in
-      let planned = passed (allInRange (minus 100000) (pos 100000) transfers) 9 _ (capacity .1) in
-      let read = passed (allInRange (minus 200000) (pos 200000) powers && allInRange (pos 55000) (pos 65000) frequencies) 3 0 (planned .1) in
-      let readings = and-both (allInRange (minus 200000) (pos 200000) powers) (allInRange (pos 55000) (pos 65000) frequencies) (read .0) in
-      let all = and-both (f && t) p (long .0) in
+      let s = eqb places (length powers) in
+      let p = all-passed ((f && t && s, wrongLength) ∷ (isCapacity (capacity .0), badCapacity) ∷ (areTransfers transfers, badTransfer) ∷ (arePowers powers && areFrequencies frequencies, badReading) ∷ []) refl e in
+      let all = and-both (f && t) s (p .0) in
       let two = and-both f t (all .0) in
+      let readings = and-both (arePowers powers) (areFrequencies frequencies) (p .1 .1 .1 .0) in
       record {
         as-frequencies = eqb-true (length frequencies) (length powers) (two .0);
         as-transfers = eqb-true (length transfers) (length powers) (two .1);
         as-places = eqb-true places (length powers) (all .1);
-        capacity-fits = capacity .0;
-        transfers-fit = planned .0;
+        capacity-fits = p .1 .0;
+        transfers-fit = p .1 .1 .0;
         powers-fit = readings .0;
         frequencies-fit = readings .1;
       }
@@ -61,16 +61,16 @@ module _ (powers frequencies transfers : List ℤ) (capacity : Kilowatts) (place
 
   -- each second of it
   pub run-second : RunFit powers frequencies transfers capacity places → (i : ℕ) → i < length powers
-      → secondRefusal (record { 0 = getD powers i (pos 0) }) (record { 0 = getD transfers i (pos 0) }) capacity (record { 0 = getD frequencies i (pos 0) }) ≡ 0
+      → secondRefusal (kilowatts (getD powers i (pos 0))) (kilowatts (getD transfers i (pos 0))) capacity (millihertz (getD frequencies i (pos 0))) ≡ 0
   run-second f i h =
       let n = f .as-frequencies in
       let t = f .as-transfers in
       fit-second _ _ _ _
       (record {
         capacity = f .capacity-fits;
-        transfer = all-inside (minus 100000) (pos 100000) transfers (f .transfers-fit) i (omega arith);
-        power = all-inside (minus 200000) (pos 200000) powers (f .powers-fit) i h;
-        frequency = all-inside (pos 55000) (pos 65000) frequencies (f .frequencies-fit) i (omega arith);
+        transfer = all-inside (minus mostTransfer) (pos mostTransfer) transfers (f .transfers-fit) i (omega arith);
+        power = all-inside (minus mostPower) (pos mostPower) powers (f .powers-fit) i h;
+        frequency = all-inside (pos leastFrequency) (pos mostFrequency) frequencies (f .frequencies-fit) i (omega arith);
       })
 
   -- the scores, without writing them out
@@ -81,31 +81,31 @@ module _ (powers frequencies transfers : List ℤ) (capacity : Kilowatts) (place
 -- ---- the seconds, looked at once
 
 -- where every test passed, and where one failed
-none : (t r : Bool) → (t && r) ≡ true → unless t 10 (unless r 4 0) ≡ 0
+none : (t r : Bool) → (t && r) ≡ true → unless t badTransfer (unless r badReading 0) ≡ 0
 none t r e = let b = and-both t r e in rw (b .0, b .1)
 
-which : (t r : Bool) → (t && r) ≡ false → unless t 10 4 ≡ unless t 10 (unless r 4 0)
+which : (t r : Bool) → (t && r) ≡ false → unless t badTransfer badReading ≡ unless t badTransfer (unless r badReading 0)
 which true r e = rw e
 which false r e = refl
 
 module _ (powers frequencies transfers : List ℤ) (f : length frequencies ≡ length powers) (t : length transfers ≡ length powers) where
   abbrev planned : Bool
-  planned = allInRange (minus 100000) (pos 100000) transfers
+  planned = areTransfers transfers
 
   abbrev read : Bool
-  read = allInRange (minus 200000) (pos 200000) powers && allInRange (pos 55000) (pos 65000) frequencies
+  read = arePowers powers && areFrequencies frequencies
 
   all-fit : allTo (length powers) (fitAt powers frequencies transfers) ≡ (planned && read)
   unfolding secondFits allInRange
   all-fit =
       let n = length powers in
-      let p : ℕ → Bool = λ (i : ℕ). inRange (minus 200000) (pos 200000) (getD powers i (pos 0)) in
-      let q : ℕ → Bool = λ (i : ℕ). inRange (pos 55000) (pos 65000) (getD frequencies i (pos 0)) in
-      let r : ℕ → Bool = λ (i : ℕ). inRange (minus 100000) (pos 100000) (getD transfers i (pos 0)) in
+      let p : ℕ → Bool = λ (i : ℕ). isPower (getD powers i (pos 0)) in
+      let q : ℕ → Bool = λ (i : ℕ). isFrequency (getD frequencies i (pos 0)) in
+      let r : ℕ → Bool = λ (i : ℕ). isTransfer (getD transfers i (pos 0)) in
       rw (f, t) (all-and n r (λ k. p k && q k) ∙ ap (λ b. allTo n r && b) (all-and n p q))
 
   pub fit-none : allTo (length powers) (fitAt powers frequencies transfers) ≡ true → secondsRefusal powers frequencies transfers ≡ 0
   fit-none e = none planned read (sym all-fit ∙ e)
 
-  pub fit-which : allTo (length powers) (fitAt powers frequencies transfers) ≡ false → unless planned 10 4 ≡ secondsRefusal powers frequencies transfers
+  pub fit-which : allTo (length powers) (fitAt powers frequencies transfers) ≡ false → unless planned badTransfer badReading ≡ secondsRefusal powers frequencies transfers
   fit-which e = which planned read (sym all-fit ∙ e)

@@ -1,5 +1,4 @@
--- A second's score, and an hour's rate by its scores.
+-- A second's score, and the scores of a run of seconds.
 pub mod Score
 pub mod Inverse
 pub mod Run
-pub mod Rolling

@@ -1,11 +1,13 @@
 -- Document 01, "A second's score" (document 001, section 1.3.1): percent output, and its score by the bounds of a frequency.
 use Prim.Native.Nat.{ℕ, _-_, min}
 use mathlib.Core.Bool.{Bool, _&&_}
+use mathlib.Core.List.{[], _∷_}
 use lib.Dec.{eqb}
 use lib.IntN.{ℤ, pos, natAbs, _-ℤ_, _*ℤ_}
-use Rattle.whole.specs.Choice.{pick, unless, orElse}
-use Rattle.whole.specs.Whole.{minus, inRange, apart, nearest}
+use Rattle.whole.specs.Choice.{pick, inOrder}
+use Rattle.whole.specs.Whole.{inRange, apart, nearest}
 use Rattle.units.specs.Refusals.{badCapacity, badReading, badTransfer}
+use Rattle.units.specs.Limits.{isCapacity, isPower, isFrequency, isTransfer, mostScore}
 use Rattle.units.specs.declared.Kilowatts.{Kilowatts}
 use Rattle.units.specs.declared.Millihertz.{Millihertz}
 use Rattle.curve.specs.Curve.{upperAt, lowerAt}
@@ -17,24 +19,16 @@ percentOutput power transfer capacity = nearest ((power -ℤ transfer) *ℤ pos 
 
 -- 100 within the two bounds, ends included; otherwise 100 less the distance to the nearer bound, and never below 0
 unfoldable pub scoreOf : ℤ → ℤ → ℤ → ℕ
-scoreOf output upper lower = pick (inRange lower upper output) 100 (100 - min (apart output upper) (apart output lower))
+scoreOf output upper lower = pick (inRange lower upper output) mostScore (mostScore - min (apart output upper) (apart output lower))
 
--- the limits of what is handed in
-abbrev pub isCapacity : ℤ → Bool
-isCapacity z = inRange (pos 1) (pos 100000) z
-
-abbrev pub isTransfer : ℤ → Bool
-isTransfer z = inRange (minus 100000) (pos 100000) z
-
+-- a second's reading
 abbrev pub isReading : ℤ → ℤ → Bool
-isReading power frequency = inRange (minus 200000) (pos 200000) power && inRange (pos 55000) (pos 65000) frequency
+isReading power frequency = isPower power && isFrequency frequency
 
 -- "Order. Hour, and calls for a part of its work": 2, 10, 4
 unfoldable pub secondRefusal : Kilowatts → Kilowatts → Kilowatts → Millihertz → ℕ
 secondRefusal power transfer capacity frequency =
-    orElse (unless (isCapacity (capacity .0)) badCapacity 0)
-    (orElse (unless (isTransfer (transfer .0)) badTransfer 0)
-    (unless (isReading (power .0) (frequency .0)) badReading 0))
+    inOrder ((isCapacity (capacity .0), badCapacity) ∷ (isTransfer (transfer .0), badTransfer) ∷ (isReading (power .0) (frequency .0), badReading) ∷ [])
 
 -- a second's power, judged by the pair of a frequency: the caller hands in that of the second before
 unfoldable pub judgedBy : Kilowatts → Kilowatts → Kilowatts → Millihertz → ℕ

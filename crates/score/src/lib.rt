@@ -1,31 +1,31 @@
-// A second's score by its percent output, and an hour's rate by its scores.
+// A second's score by its percent output, and the scores of a run of seconds.
 ghost use mathlib.Core.Path.{_≡_};
 ghost use mathlib.Core.Bool.{true};
-ghost use Prim.Native.Nat.{_*_, _-_, _≤_, min, max};
+ghost use Prim.Native.Nat.{_+_, _*_, _-_, _≤_};
 ghost use lib.IntN.{pos, natAbs, _*ℤ_};
 ghost use lib.ListN.{length};
 ghost use lib.Signed.{ltZ, leZ};
 ghost use Rattle.whole.specs.Choice.{pick};
 ghost use Rattle.whole.specs.Folds.{allTo};
 ghost use Rattle.whole.specs.Whole.{up, down, Within, Between, halfUp, nearest};
+ghost use Rattle.units.specs.Limits.{mostCapacity, mostPower, mostTransfer};
 ghost use Rattle.curve.specs.Curve.{pairsOf};
 ghost use Rattle.score.specs.Score.{percentOutput, scoreOf, secondRefusal, judgedBy, secondScore};
 ghost use Rattle.score.specs.Inverse.{inverseOf};
 ghost use Rattle.score.specs.Run.{secondFits, fitAt, secondsRefusal, runRefusal, runScores, runLeft};
-ghost use Rattle.score.specs.Rolling.{hourlyRate, rateAfter};
 use units::Kilowatts;
 use units::Millihertz;
+use units::limits;
+use units::refusals;
+
+const LEAST_POWER: i64 = -limits::POWER;
+
+const LEAST_TRANSFER: i64 = -limits::TRANSFER;
 
 // A second's score, or its refusal with 0.
 pub struct Scored {
     pub refusal: u8,
     pub score: u8,
-}
-
-// An hour's rate, or its refusal with 0.
-pub struct Rated {
-    pub refusal: u8,
-    pub rate: u8,
 }
 
 // The score of a second's power by the frequency of the second before.
@@ -59,19 +59,19 @@ fn refusal(power: Kilowatts, transfer: Kilowatts, capacity: Kilowatts, frequency
     let t = transfer.0;
     let c = capacity.0;
     let f = frequency.0;
-    let reading = whole::within(p, -200_000, 200_000) & whole::within(f, 55_000, 65_000);
-    let on_capacity = whole::unless(
-        whole::within(c, 1, 100_000),
-        units::refusals::BAD_CAPACITY,
-        0,
+    let reading = whole::within(p, LEAST_POWER, limits::POWER)
+        & whole::within(f, limits::LEAST_FREQUENCY, limits::MOST_FREQUENCY);
+    let readings = whole::unless(reading, refusals::BAD_READING, 0);
+    let transfers = whole::unless(
+        whole::within(t, LEAST_TRANSFER, limits::TRANSFER),
+        refusals::BAD_TRANSFER,
+        readings,
     );
-    let on_transfer = whole::unless(
-        whole::within(t, -100_000, 100_000),
-        units::refusals::BAD_TRANSFER,
-        0,
-    );
-    let on_reading = whole::unless(reading, units::refusals::BAD_READING, 0);
-    whole::or_else(on_capacity, whole::or_else(on_transfer, on_reading))
+    whole::unless(
+        whole::within(c, 1, limits::CAPACITY),
+        refusals::BAD_CAPACITY,
+        transfers,
+    )
 }
 
 // The score of a second that is not refused.
@@ -98,7 +98,7 @@ fn by_bounds(
     upper: i64,
     lower: i64,
 ) -> u8
-    requires { ⌜ Within 200000 (power .0) × (Within 100000 (transfer .0) × Between (pos 1) (pos 100000) (capacity .0)) ⌝ }
+    requires { ⌜ Within mostPower (power .0) × (Within mostTransfer (transfer .0) × Between (pos 1) (pos mostCapacity) (capacity .0)) ⌝ }
     requires { ⌜ inverse ≡ inverseOf (natAbs (capacity .0)) ⌝ }
     requires { ⌜ Within 100 upper × (Within 100 lower × (leZ lower upper ≡ true)) ⌝ }
     ensures { λ r. ⌜ r ≡ scoreOf (percentOutput (power .0) (transfer .0) (capacity .0)) upper lower ⌝ }
@@ -109,7 +109,7 @@ fn by_bounds(
 
 // What a run of seconds multiplies by, so that it divides by the capacity once.
 fn inverse(capacity: Kilowatts) -> u64
-    requires { ⌜ Between (pos 1) (pos 100000) (capacity .0) ⌝ }
+    requires { ⌜ Between (pos 1) (pos mostCapacity) (capacity .0) ⌝ }
     ensures { λ r. ⌜ r ≡ inverseOf (natAbs (capacity .0)) ⌝ }
 {
     let c = capacity.0;
@@ -118,7 +118,7 @@ fn inverse(capacity: Kilowatts) -> u64
 
 // The nearest whole percent of (power - transfer) over capacity.
 fn percent_output(power: Kilowatts, transfer: Kilowatts, capacity: Kilowatts, inverse: u64) -> i64
-    requires { ⌜ Within 200000 (power .0) × (Within 100000 (transfer .0) × Between (pos 1) (pos 100000) (capacity .0)) ⌝ }
+    requires { ⌜ Within mostPower (power .0) × (Within mostTransfer (transfer .0) × Between (pos 1) (pos mostCapacity) (capacity .0)) ⌝ }
     requires { ⌜ inverse ≡ inverseOf (natAbs (capacity .0)) ⌝ }
     ensures { λ r. ⌜ r ≡ percentOutput (power .0) (transfer .0) (capacity .0) ⌝ }
 {
@@ -130,7 +130,7 @@ fn percent_output(power: Kilowatts, transfer: Kilowatts, capacity: Kilowatts, in
 
 // Below 32 kW the product with the inverse may not fit 64 bits.
 fn nearest_percent(reach: i64, capacity: i64, inverse: u64) -> i64
-    requires { ⌜ Within 300000 reach × Between (pos 1) (pos 100000) capacity ⌝ }
+    requires { ⌜ Within (mostPower + mostTransfer) reach × Between (pos 1) (pos mostCapacity) capacity ⌝ }
     requires { ⌜ inverse ≡ inverseOf (natAbs capacity) ⌝ }
     ensures { λ r. ⌜ r ≡ nearest (reach *ℤ pos 100) (natAbs capacity) ⌝ }
 {
@@ -145,7 +145,7 @@ fn nearest_percent(reach: i64, capacity: i64, inverse: u64) -> i64
 }
 
 fn percents(reach: u64, capacity: u64, inverse: u64) -> u64
-    requires { ⌜ (reach ≤ 300000) × ((32 ≤ capacity) × (capacity ≤ 100000)) ⌝ }
+    requires { ⌜ (reach ≤ mostPower + mostTransfer) × ((32 ≤ capacity) × (capacity ≤ mostCapacity)) ⌝ }
     requires { ⌜ inverse ≡ inverseOf capacity ⌝ }
     ensures { λ r. ⌜ (r ≡ halfUp (reach * 100) capacity) × (r ≤ 1000000) ⌝ }
 {
@@ -213,12 +213,12 @@ fn run_refusal(
     if (frequencies.len() == n) & (transfers.len() == n) & (places == n) {
         let seconds = seconds_refusal(powers, frequencies, transfers);
         return whole::unless(
-            whole::within(size, 1, 100_000),
-            units::refusals::BAD_CAPACITY,
+            whole::within(size, 1, limits::CAPACITY),
+            refusals::BAD_CAPACITY,
             seconds,
         );
     }
-    units::refusals::WRONG_LENGTH
+    refusals::WRONG_LENGTH
 }
 
 // 10, 4. Seconds that all fit are looked at once.
@@ -227,12 +227,8 @@ fn seconds_refusal(powers: &[i64], frequencies: &[i64], transfers: &[i64]) -> u8
     ensures { λ r. ⌜ r ≡ secondsRefusal (now (powers .entry)) (now (frequencies .entry)) (now (transfers .entry)) ⌝ }
 {
     if !seconds_fit(powers, frequencies, transfers) {
-        let planned = whole::all_within(transfers, -100_000, 100_000);
-        return whole::unless(
-            planned,
-            units::refusals::BAD_TRANSFER,
-            units::refusals::BAD_READING,
-        );
+        let planned = whole::all_within(transfers, LEAST_TRANSFER, limits::TRANSFER);
+        return whole::unless(planned, refusals::BAD_TRANSFER, refusals::BAD_READING);
     }
     0
 }
@@ -258,8 +254,9 @@ fn seconds_fit(powers: &[i64], frequencies: &[i64], transfers: &[i64]) -> bool
 fn second_fits(power: i64, frequency: i64, transfer: i64) -> bool
     ensures { λ r. ⌜ r ≡ secondFits power frequency transfer ⌝ }
 {
-    whole::within(transfer, -100_000, 100_000)
-        & (whole::within(power, -200_000, 200_000) & whole::within(frequency, 55_000, 65_000))
+    whole::within(transfer, LEAST_TRANSFER, limits::TRANSFER)
+        & (whole::within(power, LEAST_POWER, limits::POWER)
+            & whole::within(frequency, limits::LEAST_FREQUENCY, limits::MOST_FREQUENCY))
 }
 
 // The curve's table and the capacity's inverse are made once for the whole run.
@@ -335,68 +332,4 @@ fn judged_in(
     let upper = pairs[k] as i64;
     let lower = pairs[k + 1] as i64;
     by_bounds(power, transfer, capacity, inverse, upper, lower)
-}
-
-// The hourly rate of 3,600 scores: the smallest of their rolling rates.
-pub fn hourly_rate(scores: &[u8]) -> Rated
-    ensures { λ r. ⌜ r ≡ hourlyRate (now (scores .entry)) ⌝ }
-{
-    if scores.len() == 3600 {
-        return rate_after(0, 0, 0, scores);
-    }
-    Rated {
-        refusal: units::refusals::WRONG_LENGTH,
-        rate: 0,
-    }
-}
-
-// One pass, after the three scores before, newest first. It carries the last three scores, the smallest rolling rate so far, and whether every
-// score so far is one.
-fn rate_after(last: u8, second: u8, third: u8, scores: &[u8]) -> Rated
-    ensures { λ r. ⌜ r ≡ rateAfter last second third (now (scores .entry)) ⌝ }
-{
-    let mut all = true;
-    let mut low = 100;
-    let mut a = last;
-    let mut b = second;
-    let mut c = third;
-    let mut i = 0;
-    while i < scores.len() {
-        let x = scores[i];
-        all = all & (x <= 100);
-        low = smaller(low, largest_of(x, a, b, c));
-        c = b;
-        b = a;
-        a = x;
-        i += 1;
-    }
-    if all {
-        return Rated {
-            refusal: 0,
-            rate: low,
-        };
-    }
-    Rated {
-        refusal: units::refusals::BAD_READING,
-        rate: 0,
-    }
-}
-
-// The largest of a window's four scores.
-fn largest_of(x: u8, a: u8, b: u8, c: u8) -> u8
-    ensures { λ r. ⌜ r ≡ max x (max a (max b c)) ⌝ }
-{
-    larger(x, larger(a, larger(b, c)))
-}
-
-fn larger(a: u8, b: u8) -> u8
-    ensures { λ r. ⌜ r ≡ max a b ⌝ }
-{
-    if b < a { a } else { b }
-}
-
-fn smaller(a: u8, b: u8) -> u8
-    ensures { λ r. ⌜ r ≡ min a b ⌝ }
-{
-    if b < a { b } else { a }
 }

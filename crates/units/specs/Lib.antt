@@ -1,3 +1,4 @@
--- The refusal numbers of document 01, and the one conversion between units.
+-- The refusal numbers and limits of document 01, its quantities, and the one conversion between them.
 pub mod Refusals
+pub mod Limits
 pub mod Units

@@ -2,6 +2,7 @@
 ghost use mathlib.Core.Path.{_≡_};
 ghost use Rattle.units.specs.Units.{inKilowatts};
 
+pub mod limits;
 pub mod refusals;
 
 // Power and capacity; discharge is positive.
@@ -15,6 +16,9 @@ pub struct Millihertz(pub i64);
 // An amount.
 pub struct Dollars(pub i64);
 
+// The least award.
+const LEAST_AWARD: i64 = -limits::AWARD;
+
 // A megawatt figure in kilowatts, or its refusal with 0.
 pub struct Converted {
     pub refusal: u8,
@@ -26,7 +30,7 @@ pub fn to_kilowatts(award: Megawatts) -> Converted
     ensures { λ r. ⌜ r ≡ inKilowatts award ⌝ }
 {
     let figure = award.0;
-    if whole::within(figure, -100, 100) {
+    if whole::within(figure, LEAST_AWARD, limits::AWARD) {
         return Converted {
             refusal: 0,
             power: Kilowatts(figure * 1000),

@@ -1,12 +1,13 @@
 -- What a choice by a test comes to: tests that pass together, a chain of refusals that let a call through, and what is kept.
 -- By cases of the tests. Assumes nothing.
-use Prim.Native.Nat.{ℕ, suc}
+use Prim.Native.Nat.{ℕ, zero, suc}
 use mathlib.Core.Path.{_≡_, refl, sym, ap, _∙_}
-use mathlib.Core.Bool.{Bool, true, false, not, _&&_}
+use mathlib.Core.Bool.{Bool, true, false, _&&_}
+use mathlib.Core.List.{List, [], _∷_, _++_}
 use native.Mathlib.Omega.{arith}
-use lib.Dec.{eqb}
+use lib.Dec.{ltb, eqb}
 use borrow.Author.Tests.{eq-eqb, ne-eqb, eqb-true}
-use Rattle.whole.specs.Choice.{pick, unless, orElse, kept}
+use Rattle.whole.specs.Choice.{pick, unless, orElse, inOrder, Passed, refusing, kept}
 
 -- no test both fails and passes
 pub clash {ℓ} : {X : Type ℓ} → _≡_ {A = Bool} false true → X
@@ -28,6 +29,25 @@ by-test false f g = g refl
 pub passed : (b : Bool) (n rest : ℕ) → unless b (suc n) rest ≡ 0 → (b ≡ true) × (rest ≡ 0)
 passed true n rest e = (refl, e)
 passed false n rest e = absurd (omega arith)
+
+-- refusals in order: 0 exactly where all tests pass
+pub all-passed : (ts : List (Bool × ℕ)) → refusing ts ≡ true → inOrder ts ≡ 0 → Passed ts
+all-passed [] n e = tt
+all-passed ((true, k) ∷ ts) n e = (refl, all-passed ts (and-both (ltb 0 k) (refusing ts) n .1) e)
+all-passed ((false, zero) ∷ ts) n e = clash n
+all-passed ((false, suc k) ∷ ts) n e = absurd (omega arith)
+
+pub passed-all : (ts : List (Bool × ℕ)) → Passed ts → inOrder ts ≡ 0
+passed-all [] p = refl
+passed-all ((true, k) ∷ ts) p = passed-all ts (p .1)
+passed-all ((false, k) ∷ ts) p = clash (p .0)
+
+-- refusals in order, and then more: those come last
+pub in-order-then : (ts us : List (Bool × ℕ)) → refusing ts ≡ true → inOrder (ts ++ us) ≡ orElse (inOrder ts) (inOrder us)
+in-order-then [] us n = refl
+in-order-then ((true, k) ∷ ts) us n = in-order-then ts us (and-both (ltb 0 k) (refusing ts) n .1)
+in-order-then ((false, zero) ∷ ts) us n = clash n
+in-order-then ((false, suc k) ∷ ts) us n = rw (ne-eqb (suc k) 0 (λ e. absurd (omega arith)))
 
 pub both-passed : (k rest : ℕ) → orElse k rest ≡ 0 → (k ≡ 0) × (rest ≡ 0)
 both-passed k rest e = by-test (eqb k 0) (λ (t : eqb k 0 ≡ true). (eqb-true k 0 t, rw t at e)) (λ (t : eqb k 0 ≡ false). let z : k ≡ 0 = rw t at e in clash (sym t ∙ eq-eqb k 0 z))

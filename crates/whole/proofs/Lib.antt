@@ -5,5 +5,6 @@ pub mod Rounding
 pub mod Folds
 pub mod Runs
 pub mod Sums
+pub mod Bounds
 pub mod Refused
 mod Determined

@@ -2,7 +2,7 @@
 -- By the laws of folds. Assumes nothing.
 use Prim.Native.Nat.{ℕ, zero, suc, _+_, _*_, _≤_, _<_}
 use mathlib.Core.Path.{_≡_, refl, sym, ap, _∙_}
-use mathlib.Core.Bool.{Bool, true, false, _&&_}
+use mathlib.Core.Bool.{true, false}
 use mathlib.Core.List.{List}
 use native.Mathlib.Omega.{arith}
 use lib.Dec.{eqb}
@@ -10,9 +10,8 @@ use lib.IntN.{ℤ, pos, _+ℤ_, +ℤ-idl, +ℤ-idr}
 use lib.Signed.{leZ}
 use lib.ListN.{length, getD, take, drop, length-take, length-drop}
 use lib.Seq.{getD-take, getD-drop}
-use Rattle.whole.specs.Folds.{foldTo, sumTo, allTo, sumOf}
-use Rattle.whole.specs.Whole.{minus, up, down, Within, inRange, allInRange, summable, summed}
-use Rattle.whole.specs.declared.Summed.{Summed}
+use Rattle.whole.specs.Folds.{foldTo, sumTo, sumOf}
+use Rattle.whole.specs.Whole.{minus, Within, inRange, allInRange, summable, summed}
 use borrow.Author.Tests.{eqb-true, eqb-false, ne-eqb}
 use Rattle.whole.specs.Choice.{pick}
 use Rattle.whole.proofs.Folds.{all-at, all-of, fold-same, fold-empty}

@@ -1,6 +1,4 @@
 -- The laws that belong to no one function; `pub` are those that crates above cite.
 mod Finding
-mod Laws
-pub mod Columns
 pub mod Refusing
 mod Determined

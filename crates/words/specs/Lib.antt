@@ -2,6 +2,4 @@
 pub mod Faults
 pub mod Words
 pub mod Questions
-pub mod Numbers
-pub mod Shapes
 pub mod Replies

@@ -1,16 +1,17 @@
 -- The questions: of each its word, what it asks, and the shape of its numbers.
-use Prim.Native.Nat.{ℕ}
+use Prim.Native.Nat.{ℕ, _*_}
 use Prim.Native.String as text
 use mathlib.Core.List.{List, [], _∷_}
 use lib.Dec.{eqb}
 use Rattle.whole.specs.Choice.{pick}
+use Rattle.units.specs.Limits.{secondsOfHour}
 use Rattle.words.specs.Faults.{notQuestion}
 use Rattle.words.specs.Words.{wordOf}
 use Rattle.words.specs.declared.Question.{Question}
 use Rattle.words.specs.declared.Rule.the-variants.{Kilowatts, Curve, Score, Rate, Bands, Factor, Fee, Quality, Energy, Loss}
 use Rattle.words.specs.declared.Hour.the-variants.{Dreg, Edreg}
-use Rattle.words.specs.declared.Run.the-variants.{Ramp, DregScores, EdregScores}
-use Rattle.words.specs.declared.Framed.the-variants.{DregFrame, EdregFrame, Frame}
+use Rattle.words.specs.declared.Series.the-variants.{Ramp, DregScores, EdregScores}
+use Rattle.words.specs.declared.Framing.the-variants.{DregFrame, EdregFrame, Frame}
 use Rattle.words.specs.declared.Question.the-variants as asks
 use Rattle.words.specs.declared.Shape.{Shape}
 use Rattle.words.specs.declared.Row.{Row}
@@ -22,47 +23,47 @@ shape head lists tail group = record { head = head; lists = lists; tail = tail; 
 abbrev pub noLists : List ℕ
 noLists = 0 ∷ 0 ∷ 0 ∷ 0 ∷ []
 
--- single numbers alone; with so many after them; with groups after them; with a list of pairs and so many after it
+-- single numbers alone; with one for each second of an hour after them; with groups after them; with a list of pairs and two for each second after it
 abbrev pub singles : ℕ → Shape
 singles head = shape head noLists 0 0
 
-abbrev pub singlesThen : ℕ → ℕ → Shape
-singlesThen head tail = shape head noLists tail 0
+abbrev pub secondsShape : ℕ → Shape
+secondsShape head = shape head noLists secondsOfHour 0
 
 abbrev pub singlesGroups : ℕ → ℕ → Shape
 singlesGroups head group = shape head noLists 0 group
 
 abbrev pub hourShape : ℕ → Shape
-hourShape head = shape head (2 ∷ 0 ∷ 0 ∷ 0 ∷ []) 7200 0
+hourShape head = shape head (2 ∷ 0 ∷ 0 ∷ 0 ∷ []) (2 * secondsOfHour) 0
 
 abbrev pub known : Question → Shape → Row
 known question shape = record { fault = 0; question = question; shape = shape }
 
 -- a word, and what it asks
-pub record Entry : Type 0 where
+pub record Listed : Type 0 where
   pub word : ℕ
   pub row : Row
 
-abbrev pub entry : text.String → Question → Shape → Entry
+abbrev pub entry : text.String → Question → Shape → Listed
 entry word question shape = record { word = wordOf word; row = known question shape }
 
-abbrev pub table : List Entry
+abbrev pub table : List Listed
 table =
     entry "kilowatts" (asks.Rule Kilowatts) (singles 1)
     ∷ entry "curve" (asks.Rule Curve) (singles 1)
     ∷ entry "score" (asks.Rule Score) (singles 4)
-    ∷ entry "ramp" (asks.Run Ramp) (singles 2)
-    ∷ entry "rate" (asks.Rule Rate) (singlesThen 0 3600)
+    ∷ entry "ramp" (asks.Series Ramp) (singles 2)
+    ∷ entry "rate" (asks.Rule Rate) (secondsShape 0)
     ∷ entry "bands" (asks.Rule Bands) (singlesGroups 0 2)
     ∷ entry "factor" (asks.Rule Factor) (singlesGroups 1 2)
     ∷ entry "fee" (asks.Rule Fee) (singles 2)
     ∷ entry "quality" (asks.Rule Quality) (singles 3)
-    ∷ entry "energy" (asks.Rule Energy) (singlesThen 6 3600)
+    ∷ entry "energy" (asks.Rule Energy) (secondsShape 6)
     ∷ entry "loss" (asks.Rule Loss) (singles 4)
     ∷ entry "dreg" (asks.Hour Dreg) (hourShape 3)
     ∷ entry "edreg" (asks.Hour Edreg) (hourShape 10)
-    ∷ entry "dreg_scores" (asks.Run DregScores) (hourShape 3)
-    ∷ entry "edreg_scores" (asks.Run EdregScores) (hourShape 10)
+    ∷ entry "dreg_scores" (asks.Series DregScores) (hourShape 3)
+    ∷ entry "edreg_scores" (asks.Series EdregScores) (hourShape 10)
     ∷ entry "dreg_frame" (asks.Frame DregFrame) (hourShape 5)
     ∷ entry "edreg_frame" (asks.Frame EdregFrame) (hourShape 12)
     ∷ entry "frame" (asks.Frame Frame) (singles 4)
@@ -72,7 +73,7 @@ table =
 abbrev pub unknown : Row
 unknown = record { fault = notQuestion; question = asks.Unknown; shape = singles 0 }
 
-abbrev pub find : List Entry → ℕ → Row
+abbrev pub find : List Listed → ℕ → Row
 find [] code = unknown
 find (e ∷ es) code = pick (eqb code (e .word)) (e .row) (find es code)
 

@@ -18,13 +18,13 @@ letterOf b = pick (leb 97 b) (b - 96) 27
 
 -- each place counts its digit times the base to the power of how many places follow
 module _ (base : ℕ) (digit : ℕ → ℕ) where
-  abbrev pub placed : List ℕ → ℕ
-  placed [] = 0
-  placed (b ∷ bs) = digit b * base ^ length bs + placed bs
+  abbrev pub lettersPlaced : List ℕ → ℕ
+  lettersPlaced [] = 0
+  lettersPlaced (b ∷ bs) = digit b * base ^ length bs + lettersPlaced bs
 
 -- a word's code: base 32 over its letters, the first letter highest
 abbrev pub codeOf : List ℕ → ℕ
-codeOf = placed 32 letterOf
+codeOf = lettersPlaced 32 letterOf
 
 abbrev pub wordOf : text.String → ℕ
 wordOf word = codeOf (bytes word)

@@ -1,18 +1,17 @@
--- `asked::read_all` meets its contract. The loop's invariant: from here on the chunk comes to what it
--- came to from the start. Assumes nothing.
+-- `asked::read_all` meets its contract. The loop's invariant: from here on the chunk comes to what it came to from the start. Assumes nothing.
 use native.Mathlib.Omega.{arith}
 use Prim.Native.Nat.{_-_, _≤_}
-use mathlib.Core.Path.{_≡_, refl, sym, ap, _∙_}
+use mathlib.Core.Path.{_≡_, refl, ap, _∙_}
 use lib.ListN.{length}
-use Rattle.asked.proofs.Reading.{Still, length-stepped, still-next, still-stops, still-done}
+use Rattle.asked.proofs.Reading.{Still, length-stepped, begins-by, stores-by, still-next, still-stops, still-done}
 use Rattle.asked.proofs.read_all.Statement.{statement}
 use Rattle.asked.proofs.read_all.Tie as tie
 
 abbrev Inv-loop : tie.InvT-loop
-Inv-loop chunk numbers₀ reached₀ i₀ numbers reached i = (i ≤ length chunk) × (length numbers ≡ length numbers₀) × (Still reached₀ chunk numbers₀ reached i numbers)
+Inv-loop chunk numbers₀ state₀ i₀ numbers state i = (i ≤ length chunk) × (length numbers ≡ length numbers₀) × (Still state₀ chunk numbers₀ state i numbers)
 
 abbrev μ-loop : tie.MeasureT-loop
-μ-loop chunk numbers₀ reached₀ i₀ numbers reached i = length chunk - i
+μ-loop chunk numbers₀ state₀ i₀ numbers state i = length chunk - i
 
 loop-holds : tie.Need-loop-holds Inv-loop μ-loop
 loop-holds c = (omega arith, refl, record { state-is = refl; taken-is = omega arith; ended-is = refl; run-is = refl })
@@ -20,24 +19,27 @@ loop-holds c = (omega arith, refl, record { state-is = refl; taken-is = omega ar
 shared-slice-read-b : tie.Need-shared-slice-read-b Inv-loop μ-loop
 shared-slice-read-b c = omega arith
 
-begins-requires : tie.Need-begins-requires Inv-loop μ-loop
-begins-requires c κs = tt
+step-requires : tie.Need-step-requires Inv-loop μ-loop
+step-requires c κs = tt
+
+reach-requires : tie.Need-reach-requires Inv-loop μ-loop
+reach-requires c κs = tt
 
 same-length : tie.Need-same-length Inv-loop μ-loop
-same-length c = c .before .before .before .before .loop .inv .1
+same-length c = c .before .before .before .before .before .before .before .before .loop .inv .1
 
 returns : tie.Need-returns Inv-loop μ-loop
 returns c =
-    let t = c .before .before .before in
-    still-stops (t .before .loop .inv .2) (t .loop-test .taken) (sym (c .before .begins .ensures) ∙ c .if1 .taken)
+    let s = c .before .before .before .before in
+    let t = s .before .before .before in
+    let d = still-stops (t .before .loop .inv .2) (t .loop-test .taken) (begins-by _ _ _ (s .step .ensures) ∙ c .before .if1 .taken) in
+    (c .reach .ensures ∙ d .0, d .1)
 
-store-step-requires : tie.Need-store-step-requires Inv-loop μ-loop
-store-step-requires c κs =
-    let t = c .before .before .before .before in
-    t .before .loop .inv .1 ∙ t .before .before .before .pre
+store-requires : tie.Need-store-requires Inv-loop μ-loop
+store-requires c κs = let l = c .before .before .before .before .before .before .before .before in l .loop .inv .1 ∙ l .before .before .pre
 
 stepped-requires : tie.Need-stepped-requires Inv-loop μ-loop
-stepped-requires c κs = tt
+stepped-requires c κs = c .before .before .before .before .before .before .step .ensures
 
 add-i : tie.Need-add-i Inv-loop μ-loop
 add-i c = omega arith
@@ -48,16 +50,20 @@ loop-less c = omega arith
 loop-again : tie.Need-loop-again Inv-loop μ-loop
 loop-again c =
     let e = c .before .before .before .before in
-    let t = e .before .before .before in
+    let s = e .before .before .before in
+    let t = s .before .before .before in
     let l = t .before .loop in
-    let stored = c .before .before .store-step .ensures in
-    (omega arith, ap length stored ∙ length-stepped _ _ _ ∙ l .inv .1, rw (stored, c .stepped .ensures) (still-next (l .inv .2) (t .loop-test .taken) (sym (e .before .begins .ensures) ∙ e .if1 .left)))
+    let stored = rw (stores-by (l .state) _ _ (s .step .ensures) (l .numbers)) at (c .before .before .store .ensures) in
+    (omega arith, ap length stored ∙ length-stepped _ _ _ ∙ l .inv .1, rw (stored, c .stepped .ensures) (still-next (l .inv .2) (t .loop-test .taken) (begins-by _ _ _ (s .step .ensures) ∙ e .if1 .left)))
+
+reach-requires-2 : tie.Need-reach-requires-2 Inv-loop μ-loop
+reach-requires-2 c κs = tt
 
 same-length-2 : tie.Need-same-length-2 Inv-loop μ-loop
-same-length-2 c = c .before .loop .inv .1
+same-length-2 c = c .before .before .loop .inv .1
 
 returns-2 : tie.Need-returns-2 Inv-loop μ-loop
-returns-2 c = still-done (c .before .loop .inv .2) (c .loop-test .left)
+returns-2 c = let d = still-done (c .before .before .loop .inv .2) (c .before .loop-test .left) in (c .reach2 .ensures ∙ d .0, d .1)
 
 pub read-all-spec : {M : Type 1} → statement M
 read-all-spec =
@@ -67,13 +73,15 @@ read-all-spec =
     μ-loop
     loop-holds
     shared-slice-read-b
-    begins-requires
+    step-requires
+    reach-requires
     same-length
     returns
-    store-step-requires
+    store-requires
     stepped-requires
     add-i
     loop-less
     loop-again
+    reach-requires-2
     same-length-2
     returns-2)

@@ -15,8 +15,8 @@ all-within-requires-2 c κs = search needs
 fall-requires : tie.Need-fall-requires
 fall-requires c κs = search needs
 
-last-requires : tie.Need-last-requires
-last-requires c κs = search needs
+last-threshold-requires : tie.Need-last-threshold-requires
+last-threshold-requires c κs = search needs
 
 within-requires : tie.Need-within-requires
 within-requires c κs = search needs
@@ -27,7 +27,7 @@ returns c =
     let l = c .before in
     let f = l .before in
     let t = f .before in
-    rw (t .before .all-within .ensures, t .all-within2 .ensures, f .fall .ensures, c .within .ensures, back w64 (l .last .ok) (l .last .ensures))
+    rw (t .before .all-within .ensures, t .all-within2 .ensures, f .fall .ensures, c .within .ensures, back w64 (l .last-threshold .ok) (l .last-threshold .ensures))
 
 pub fit-spec : {M : Type 1} → statement M
 fit-spec =
@@ -36,6 +36,6 @@ fit-spec =
     all-within-requires
     all-within-requires-2
     fall-requires
-    last-requires
+    last-threshold-requires
     within-requires
     returns)

@@ -6,6 +6,9 @@ use borrow.Author.Needs.{needs}
 use Rattle.board.proofs.amount_refusal.Statement.{statement}
 use Rattle.board.proofs.amount_refusal.Tie as tie
 
+sub-within : tie.Need-sub-within
+sub-within c = search needs
+
 within-requires : tie.Need-within-requires
 within-requires c κs = search needs
 
@@ -21,4 +24,4 @@ returns c =
     simp (c .before .within .ensures, toZ-ofZ f) at (c .unless .ensures)
 
 pub amount-refusal-spec : {M : Type 1} → statement M
-amount-refusal-spec = tie.close (tie.spec within-requires unless-requires returns)
+amount-refusal-spec = tie.close (tie.spec sub-within within-requires unless-requires returns)

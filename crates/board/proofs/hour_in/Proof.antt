@@ -1,35 +1,31 @@
--- `board::hour_in` meets its contract: its tests are the board's, in order, at the hour's place. Assumes nothing.
-use mathlib.Core.Path.{ap, ap₂, _∙_}
+-- `board::hour_in` meets its contract: its tests are the board's, in order. Assumes nothing.
 use Prim.Native.Nat.{ℕ}
-use mathlib.Core.Bool.{Bool, false}
+use mathlib.Core.Path.{_≡_, ap, ap₂, _∙_}
+use mathlib.Core.Bool.{Bool}
 use lib.IntN.{ℤ, pos}
 use lib.ListN.{getD}
+use mir.Syntax.{w64}
+use mir.Val.{SFits, toZ, ofZ}
+use mir.Facts.{toZ-ofZ}
 use Rattle.whole.specs.Choice.{unless}
 use Rattle.units.specs.Refusals.{wrongLength, notReachable, notInMonth, placeEmpty}
-use Rattle.units.specs.declared.Dollars.{Dollars}
 use Rattle.history.specs.Board.{told, hourIn}
 use Rattle.board.specs.Board.{toldOf}
 use borrow.Author.Needs.{needs}
 use Rattle.board.proofs.hour_in.Statement.{statement}
 use Rattle.board.proofs.hour_in.Tie as tie
 
-place-of-requires : tie.Need-place-of-requires
-place-of-requires c κs = search needs
-
-filled-at-requires : tie.Need-filled-at-requires
-filled-at-requires c κs = search needs
+mark-at-requires : tie.Need-mark-at-requires
+mark-at-requires c κs = search needs
 
 unless-requires : tie.Need-unless-requires
 unless-requires c κs = search needs
 
-in-month-requires : tie.Need-in-month-requires
-in-month-requires c κs = search needs
-
 unless-requires-2 : tie.Need-unless-requires-2
 unless-requires-2 c κs = search needs
 
-head-fits-requires : tie.Need-head-fits-requires
-head-fits-requires c κs = search needs
+fits-requires : tie.Need-fits-requires
+fits-requires c κs = search needs
 
 unless-requires-3 : tie.Need-unless-requires-3
 unless-requires-3 c κs = search needs
@@ -40,11 +36,17 @@ runs-fit-requires c κs = search needs
 unless-requires-4 : tie.Need-unless-requires-4
 unless-requires-4 c κs = search needs
 
-amount-at-requires : tie.Need-amount-at-requires
-amount-at-requires c κs = search needs
+at-requires : tie.Need-at-requires
+at-requires c κs = search needs
 
 answer-requires : tie.Need-answer-requires
 answer-requires c κs = search needs
+
+-- the amount as the code hands it on
+amount-is : (c : tie.After-at) →
+    let a = c .before .before .before .before .before .before .before .before .before .args in
+    toZ w64 (ofZ w64 (c .at .result)) ≡ getD (a .amounts .now) (a .place .at) (pos 0)
+amount-is c = let f : SFits w64 (c .at .result) = search needs in toZ-ofZ f ∙ c .at .ensures
 
 returns : tie.Need-returns
 unfolding hourIn
@@ -55,31 +57,25 @@ returns c =
     let m = l .before in
     let h = m .before in
     let k = h .before in
-    let i = k .before in
-    let u = i .before in
+    let u = k .before in
     let f = u .before in
-    let p = f .before in
-    let a = p .before .before .args in
-    let taken = f .filled-at .ensures ∙ ap (λ (q : ℕ). getD (a .filled .now) q false) (p .place-of .ensures) in
-    let inside = k .unless2 .ensures ∙ ap₂ (λ (t : Bool) (r : ℕ). unless t notInMonth r) (i .in-month .ensures) (u .unless .ensures ∙ ap (λ (t : Bool). unless t placeEmpty 0) taken) in
-    let seen = m .unless3 .ensures ∙ ap₂ (λ (t : Bool) (r : ℕ). unless t notReachable r) (h .head-fits .ensures) inside in
+    let a = f .before .before .args in
+    let here = k .unless2 .ensures ∙ ap (unless (a .place .inside) notInMonth) (u .unless .ensures ∙ ap (λ (t : Bool). unless t placeEmpty 0) (f .mark-at .ensures)) in
+    let seen = m .unless3 .ensures ∙ ap₂ (λ (t : Bool) (r : ℕ). unless t notReachable r) (h .fits2 .ensures) here in
     let number = n .unless4 .ensures ∙ ap₂ (λ (t : Bool) (r : ℕ). unless t wrongLength r) (l .runs-fit .ensures) seen in
-    let amount = ap (λ (z : Dollars). z .0) (x .amount-at .ensures) ∙ ap (λ (q : ℕ). getD (a .amounts .now) q (pos 0)) (p .place-of .ensures) in
-    c .answer .ensures ∙ ap₂ (λ (k : ℕ) (z : ℤ). toldOf (told k z)) number amount
+    c .answer .ensures ∙ ap₂ (λ (k : ℕ) (z : ℤ). toldOf (told k z)) number (amount-is x)
 
 pub hour-in-spec : {M : Type 1} → statement M
 hour-in-spec =
     tie.close
     (tie.spec
-    place-of-requires
-    filled-at-requires
+    mark-at-requires
     unless-requires
-    in-month-requires
     unless-requires-2
-    head-fits-requires
+    fits-requires
     unless-requires-3
     runs-fit-requires
     unless-requires-4
-    amount-at-requires
+    at-requires
     answer-requires
     returns)

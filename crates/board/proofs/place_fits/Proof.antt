@@ -1,10 +1,9 @@
 -- `board::place_fits` meets its contract: by the mark; the range test is the amount's refusal, and its bits are 0 just where it is. Assumes nothing.
 use mathlib.Core.Path.{ap, _∙_}
-use lib.IntN.{pos}
 use mir.Syntax.{w64}
 use mir.Val.{SFits}
 use mir.Facts.{toZ-ofZ}
-use Rattle.whole.specs.Whole.{minus, inRange}
+use Rattle.units.specs.Limits.{isAmount, hoursOfDay}
 use Rattle.whole.proofs.Signed.{zero-bits}
 use Rattle.history.proofs.Days.{hours-even}
 use Rattle.board.proofs.Core.{test-is}
@@ -14,6 +13,9 @@ use Rattle.board.proofs.place_fits.Tie as tie
 
 mul-result : tie.Need-mul-result
 mul-result c = search needs
+
+sub-within : tie.Need-sub-within
+sub-within c = search needs
 
 within-requires : tie.Need-within-requires
 within-requires c κs = search needs
@@ -25,8 +27,8 @@ returns : tie.Need-returns
 returns c =
     let t = c .before in
     let a = t .before .before .args in
-    let test = c .within .ensures ∙ ap (inRange (minus 1000000000) (pos 1000000000)) (toZ-ofZ (amount-fits (t .before))) in
-    rw (t .if1 .taken, test, test-is (inRange (minus 1000000000) (pos 1000000000) (a .amount .0)), hours-even 24 (a .days))
+    let test = c .within .ensures ∙ ap (isAmount) (toZ-ofZ (amount-fits (t .before))) in
+    rw (t .if1 .taken, test, test-is (isAmount (a .amount .0)), hours-even hoursOfDay (a .days))
 
 returns-2 : tie.Need-returns-2
 returns-2 c =
@@ -34,4 +36,4 @@ returns-2 c =
     rw (c .if1 .left) (zero-bits f)
 
 pub place-fits-spec : {M : Type 1} → statement M
-place-fits-spec = tie.close (tie.spec mul-result within-requires returns returns-2)
+place-fits-spec = tie.close (tie.spec mul-result sub-within within-requires returns returns-2)

@@ -14,18 +14,19 @@ use borrow.Author.Tests.{not-true, not-false}
 use Rattle.whole.specs.Folds.{allTo}
 use Rattle.whole.proofs.Choice.{both}
 use Rattle.whole.proofs.Folds.{fold-none, fold-step, all-fails}
-use Rattle.board.specs.Board.{placeFits}
+use Rattle.units.specs.Limits.{monthPlaces}
+use Rattle.board.specs.Inner.{placeFits}
 use Rattle.board.proofs.places_fit.Statement.{statement}
 use Rattle.board.proofs.places_fit.Tie as tie
 
 abbrev fits : ℕ → List Bool → List ℤ → ℕ → Bool
-fits days filled amounts p = placeFits days p (getD filled p false) (getD amounts p (pos 0))
+fits days marks amounts p = placeFits days p (getD marks p false) (getD amounts p (pos 0))
 
 abbrev Inv-loop : tie.InvT-loop
-Inv-loop days filled amounts p₀ p = (p ≤ 744) × (allTo p (fits days filled amounts) ≡ true)
+Inv-loop days marks amounts p₀ p = (p ≤ monthPlaces) × (allTo p (fits days marks amounts) ≡ true)
 
 abbrev μ-loop : tie.MeasureT-loop
-μ-loop days filled amounts p₀ p = 744 - p
+μ-loop days marks amounts p₀ p = monthPlaces - p
 
 loop-holds : tie.Need-loop-holds Inv-loop μ-loop
 loop-holds c = (omega arith, fold-none true _&&_ _)
@@ -49,17 +50,17 @@ amount-fits c = search needs
 judged : (c : tie.After-place-fits Inv-loop μ-loop) →
     let l = c .before .before .before .before in
     let a = l .before .before .args in
-    c .place-fits .result ≡ fits (a .days) (a .filled .now) (a .amounts .now) (l .loop .p)
+    c .place-fits .result ≡ fits (a .days) (a .marks .now) (a .amounts .now) (l .loop .p)
 judged c =
     let l = c .before .before .before .before in
     let a = l .before .before .args in
     let p = l .loop .p in
-    c .place-fits .ensures ∙ ap (placeFits (a .days) p (getD (a .filled .now) p false)) (toZ-ofZ (amount-fits (c .before .before)))
+    c .place-fits .ensures ∙ ap (placeFits (a .days) p (getD (a .marks .now) p false)) (toZ-ofZ (amount-fits (c .before .before)))
 
 returns : tie.Need-returns Inv-loop μ-loop
 returns c =
     let l = c .before .before .before .before .before in
-    sym (all-fails 744 _ (l .loop .p) (omega arith) (sym (judged (c .before)) ∙ not-true _ (c .if1 .taken)))
+    sym (all-fails monthPlaces _ (l .loop .p) (omega arith) (sym (judged (c .before)) ∙ not-true _ (c .if1 .taken)))
 
 add-p : tie.Need-add-p Inv-loop μ-loop
 add-p c = omega arith
@@ -73,7 +74,7 @@ loop-again c =
     (omega arith, fold-step true _&&_ _ _ ∙ both (l .loop .inv .1) (sym (judged (c .before)) ∙ not-false _ (c .if1 .left)))
 
 returns-2 : tie.Need-returns-2 Inv-loop μ-loop
-returns-2 c = let e : c .before .loop .p ≡ 744 = omega arith in sym (rw e at (c .before .loop .inv .1))
+returns-2 c = let e : c .before .loop .p ≡ monthPlaces = omega arith in sym (rw e at (c .before .loop .inv .1))
 
 pub places-fit-spec : {M : Type 1} → statement M
 places-fit-spec =

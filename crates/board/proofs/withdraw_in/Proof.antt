@@ -1,23 +1,15 @@
--- `board::withdraw_in` meets its contract: it is refused at the front, or by its place, or it empties its place. Assumes nothing.
-use Prim.Native.Nat.{ℕ}
-use native.Mathlib.Omega.{arith}
-use mathlib.Core.Path.{_≡_, refl, sym, ap, ap₂, _∙_}
-use mathlib.Core.Bool.{Bool, true, false}
-use lib.IntN.{pos}
-use lib.ListN.{getD, set}
-use Rattle.whole.specs.Choice.{unless}
-use Rattle.units.specs.Refusals.{placeEmpty}
-use Rattle.history.specs.Rules.{Call}
-use Rattle.history.specs.Board.{rulingOn, nextOn}
-use Rattle.board.specs.Board.{placeOf, boardIn}
-use Rattle.board.proofs.Core.{turned-front, turned-rest, let-through}
+-- `board::withdraw_in` meets its contract: by its number; what is let through is put at its place. Assumes nothing.
+use Rattle.history.specs.Rules.{Deed}
+use Rattle.board.proofs.Core.{withdrawal, turned-away, let-through}
 use borrow.Author.Needs.{needs}
-use borrow.Author.Tests.{not-true, not-false}
 use Rattle.board.proofs.withdraw_in.Statement.{statement}
 use Rattle.board.proofs.withdraw_in.Tie as tie
 
-front-requires : tie.Need-front-requires
-front-requires c κs = search needs
+number-requires : tie.Need-number-requires
+number-requires c κs = search needs
+
+put-requires : tie.Need-put-requires
+put-requires c κs = search needs
 
 same-length : tie.Need-same-length
 same-length c = search needs
@@ -25,23 +17,14 @@ same-length c = search needs
 same-length-2 : tie.Need-same-length-2
 same-length-2 c = search needs
 
--- what the place says
-rest-of : tie.Start → ℕ
-rest-of s = let a = s .args in unless (getD (a .filled .now) (placeOf (a .day) (a .hour)) false) placeEmpty 0
-
 returns : tie.Need-returns
-unfolding rulingOn rest-of
 returns c =
-    let f = c .before in
-    let s = f .before .before .before .before in
-    let a = s .args in
-    turned-front (a .head) (a .filled .now) (a .amounts .now) (Call.withdraw (a .day) (a .hour)) (a .day) (a .hour) (rest-of s) refl _ (f .front .ensures) (c .if1 .taken)
-
-place-of-requires : tie.Need-place-of-requires
-place-of-requires c κs = search needs
-
-filled-at-requires : tie.Need-filled-at-requires
-filled-at-requires c κs = search needs
+    let p = c .before .before .before in
+    let t = p .before .before .before in
+    let n = t .before in
+    let a = n .before .before .before .before .args in
+    let is = withdrawal (a .head) (a .marks .now) (a .amounts .now) (a .place) _ (n .number .ensures) in
+    (is, let-through (a .head) (a .marks .now) (a .amounts .now) (a .place) Deed.withdraws _ is (t .if1 .taken) _ _ (p .put .ensures .0) (p .put .ensures .1))
 
 same-length-3 : tie.Need-same-length-3
 same-length-3 c = search needs
@@ -49,63 +32,22 @@ same-length-3 c = search needs
 same-length-4 : tie.Need-same-length-4
 same-length-4 c = search needs
 
-taken-is : (c : tie.After-filled-at) →
-    let s = c .before .before .before .before .before .before .before .before in
-    c .filled-at .result ≡ getD (s .args .filled .now) (placeOf (s .args .day) (s .args .hour)) false
-taken-is c = simp (c .before .before .place-of .ensures) at (c .filled-at .ensures)
-
 returns-2 : tie.Need-returns-2
-unfolding rulingOn rest-of
 returns-2 c =
-    let t = c .before in
-    let e = t .before .before .before in
-    let f = e .before in
-    let s = f .before .before .before .before in
-    let a = s .args in
-    let empty = sym (taken-is t) ∙ not-true _ (c .if2 .taken) in
-    turned-rest (a .head) (a .filled .now) (a .amounts .now) (Call.withdraw (a .day) (a .hour)) (a .day) (a .hour) (rest-of s) refl
-    _ (f .front .ensures) (e .if1 .left) 8 (rw empty) (λ z. absurd (omega arith))
-
-put-requires : tie.Need-put-requires
-put-requires c κs = search needs
-
-same-length-5 : tie.Need-same-length-5
-same-length-5 c = search needs
-
-same-length-6 : tie.Need-same-length-6
-same-length-6 c = search needs
-
-returns-3 : tie.Need-returns-3
-unfolding rulingOn nextOn rest-of
-returns-3 c =
-    let p = c .before .before .before in
-    let g = p .before .before .before in
-    let t = g .before in
-    let o = t .before .before in
-    let e = o .before in
-    let f = e .before in
-    let s = f .before .before .before .before in
-    let a = s .args in
-    let stands = sym (taken-is t) ∙ not-false _ (g .if2 .left) in
-    let marks = p .put .ensures .0 ∙ ap (λ (i : ℕ). set (a .filled .now) i false) (o .place-of .ensures) in
-    let items = p .put .ensures .1 ∙ ap (λ (i : ℕ). set (a .amounts .now) i (pos 0)) (o .place-of .ensures) in
-    let-through (a .head) (a .filled .now) (a .amounts .now) (Call.withdraw (a .day) (a .hour)) (a .day) (a .hour) (rest-of s) refl
-    _ (f .front .ensures) (e .if1 .left) 0 (rw stands) refl _ _ (ap₂ (boardIn (a .head)) marks items)
+    let n = c .before in
+    let a = n .before .before .before .before .args in
+    let is = withdrawal (a .head) (a .marks .now) (a .amounts .now) (a .place) _ (n .number .ensures) in
+    (is, turned-away (a .head) (a .marks .now) (a .amounts .now) (a .place) Deed.withdraws _ is (c .if1 .left))
 
 pub withdraw-in-spec : {M : Type 1} → statement M
 withdraw-in-spec =
     tie.close
     (tie.spec
-    front-requires
+    number-requires
+    put-requires
     same-length
     same-length-2
     returns
-    place-of-requires
-    filled-at-requires
     same-length-3
     same-length-4
-    returns-2
-    put-requires
-    same-length-5
-    same-length-6
-    returns-3)
+    returns-2)

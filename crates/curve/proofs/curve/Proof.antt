@@ -1,11 +1,10 @@
 -- `curve::curve` meets its contract: its test is the definition's. Assumes nothing.
 use mathlib.Core.Path.{_≡_, sym, _∙_}
-use lib.IntN.{pos}
 use mir.Syntax.{w64}
 use mir.Val.{SFits}
 use mir.Facts.{toZ-ofZ}
 use borrow.Author.Needs.{needs}
-use Rattle.whole.specs.Whole.{inRange}
+use Rattle.units.specs.Limits.{isFrequency}
 use Rattle.curve.specs.Curve.{curveAt}
 use Rattle.curve.proofs.curve.Statement.{statement}
 use Rattle.curve.proofs.curve.Tie as tie
@@ -17,7 +16,7 @@ f-fits : (c : tie.After-struct-told) → SFits w64 (c .before .args .frequency .
 f-fits c = search needs
 
 -- what the test found
-found : (c : tie.After-within) → inRange (pos 55000) (pos 65000) (c .before .before .args .frequency .0) ≡ c .within .result
+found : (c : tie.After-within) → isFrequency (c .before .before .args .frequency .0) ≡ c .within .result
 found c = sym (rw (toZ-ofZ (f-fits (c .before))) at (c .within .ensures))
 
 bounds-at-requires : tie.Need-bounds-at-requires

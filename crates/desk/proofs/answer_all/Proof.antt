@@ -1,6 +1,6 @@
 -- `desk::answer_all` is safe and ends: the number of steps that are left falls, and each run keeps its length. Assumes nothing.
 use Prim.Native.Nat.{_<_}
-use mathlib.Core.Path.{_≡_, refl, _∙_}
+use mathlib.Core.Path.{_≡_, refl}
 use mathlib.Core.Bool.{not, _&&_}
 use native.Mathlib.Omega.{arith}
 use lib.Dec.{ltb}

@@ -5,8 +5,14 @@ use borrow.Author.Needs.{needs}
 use Rattle.desk.proofs.close.Statement.{statement}
 use Rattle.desk.proofs.close.Tie as tie
 
-finish-requires : tie.Need-finish-requires
-finish-requires c κs = search needs
+array-share-prefix-none : tie.Need-array-share-prefix-none
+array-share-prefix-none c = search needs
+
+slice-aggregate-feed : tie.Need-slice-aggregate-feed
+slice-aggregate-feed c = search needs
+
+feed-requires : tie.Need-feed-requires
+feed-requires c κs = search needs
 
 slice-reshare-prefix-write-all : tie.Need-slice-reshare-prefix-write-all
 slice-reshare-prefix-write-all c = search needs
@@ -30,7 +36,9 @@ pub close-spec : {M : Type 1} → statement M
 close-spec =
     tie.close
     (tie.spec
-    finish-requires
+    array-share-prefix-none
+    slice-aggregate-feed
+    feed-requires
     slice-reshare-prefix-write-all
     slice-aggregate-write-all
     write-all-requires

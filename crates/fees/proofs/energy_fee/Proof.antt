@@ -1,50 +1,62 @@
--- `fees::energy_fee` meets its contract, by that of `four_quarters` where nothing is refused. Assumes nothing.
+-- `fees::energy_fee` meets its contract: that of `energy_exact`, rounded. Assumes nothing.
 use mathlib.Core.Path.{_≡_, sym, ap, _∙_}
 use lib.IntN.{ℤ}
 use mir.Syntax.{w64}
+use mir.Val.{SFits}
 use mir.Facts.{toZ-ofZ}
 use borrow.Author.Needs.{needs}
 use Rattle.whole.proofs.Choice.{kept-old}
 use Rattle.whole.proofs.Signed.{back}
-use Rattle.fees.specs.Fees.{granted, refused, energyRefusal, energyAnswer}
-use Rattle.fees.proofs.Laws.{energy-fits, energy-granted}
+use Rattle.fees.specs.Fees.{chargeOf, noCharge, energyParts, energyFee, energyRefusal, energyAnswer, energyExact}
+use Rattle.fees.specs.declared.Exact.{Exact}
+use Rattle.fees.proofs.Laws.{EnergyFits, energy-fits, energy-granted, exact-refusal, exact-granted}
 use Rattle.fees.proofs.energy_fee.Statement.{statement}
 use Rattle.fees.proofs.energy_fee.Tie as tie
 
-energy-refusal-requires : tie.Need-energy-refusal-requires
-energy-refusal-requires c κs = search needs
+energy-exact-requires : tie.Need-energy-exact-requires
+energy-exact-requires c κs = search needs
+
+exact-is : (c : tie.After-energy-exact) →
+    let a = c .before .args in
+    c .energy-exact .result ≡ energyExact (a .powers .now) (a .targets .now) (a .discharge) (a .charge)
+exact-is c =
+    let f = c .before .fits in
+    rw (toZ-ofZ (f .discharge), toZ-ofZ (f .charge)) at (c .energy-exact .ensures)
 
 -- what the tests found
-found : (c : tie.After-energy-refusal) →
+found : (c : tie.After-energy-exact) →
     let a = c .before .args in
-    c .energy-refusal .result ≡ energyRefusal (a .powers .now) (a .targets .now) (a .discharge) (a .charge)
-found c =
-    let f = c .before .fits in
-    rw (toZ-ofZ (f .discharge), toZ-ofZ (f .charge)) at (c .energy-refusal .ensures)
+    c .energy-exact .result .refusal ≡ energyRefusal (a .powers .now) (a .targets .now) (a .discharge) (a .charge)
+found c = ap (λ (x : Exact). x .refusal) (exact-is c) ∙ exact-refusal _ _ _ _
 
-four-quarters-requires : tie.Need-four-quarters-requires
-four-quarters-requires c κs =
-    let f = c .before .before .fits in
-    rw (toZ-ofZ (f .discharge), toZ-ofZ (f .charge)) (sym (found (c .before)) ∙ c .if1 .taken)
+fits : (c : tie.Then1) → let a = c .before .before .before .args in EnergyFits (a .powers .now) (a .targets .now) (a .discharge) (a .charge)
+fits c = energy-fits _ _ _ _ (sym (found (c .before .before)) ∙ c .if1 .taken)
+
+parts-fit : (c : tie.After-struct-told) → SFits w64 (c .before .energy-exact .result .parts)
+parts-fit c = search needs
+
+nearest-requires : tie.Need-nearest-requires
+nearest-requires c κs = search needs
 
 returns : tie.Need-returns
-unfolding granted
+unfolding chargeOf energyFee
 returns c =
     let t = c .before in
-    let f = t .before .before .fits in
-    let n = back w64 (c .four-quarters .ok) (rw (toZ-ofZ (f .discharge), toZ-ofZ (f .charge)) at (c .four-quarters .ensures)) in
-    ap (λ (z : ℤ). granted z) n ∙ sym (energy-granted (energy-fits _ _ _ _ (sym (found (t .before)) ∙ t .if1 .taken)))
+    let e = t .before .before in
+    let parts = ap (λ (x : Exact). x .parts) (exact-is e ∙ exact-granted (fits t)) in
+    let n = back w64 (c .nearest .ok) (rw (toZ-ofZ (parts-fit (t .before)), parts) at (c .nearest .ensures)) in
+    ap (λ (z : ℤ). chargeOf z) n ∙ sym (energy-granted (fits t))
 
-refused-requires : tie.Need-refused-requires
-refused-requires c κs = search needs
+no-charge-requires : tie.Need-no-charge-requires
+no-charge-requires c κs = search needs
 
 returns-2 : tie.Need-returns-2
 unfolding energyAnswer
 returns-2 c =
-    let e = found (c .before .before) in
-    c .refused .ensures ∙ ap refused e ∙ sym (kept-old _ (refused _) (λ z. c .before .if1 .left (e ∙ z)))
+    let e = found (c .before .before .before) in
+    c .no-charge .ensures ∙ ap noCharge e ∙ sym (kept-old _ (noCharge _) (λ z. c .before .if1 .left (e ∙ z)))
 
 pub energy-fee-spec : {M : Type 1} → statement M
 energy-fee-spec =
     tie.close
-    (tie.spec energy-refusal-requires four-quarters-requires returns refused-requires returns-2)
+    (tie.spec energy-exact-requires nearest-requires returns no-charge-requires returns-2)

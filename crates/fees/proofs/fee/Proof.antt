@@ -7,9 +7,9 @@ use mir.Facts.{toZ-ofZ}
 use borrow.Author.Needs.{needs}
 use Rattle.whole.proofs.Choice.{kept-old}
 use Rattle.whole.proofs.Signed.{back, within-fits}
-use Rattle.fees.specs.Fees.{granted, refused, feeRefusal, feeAnswer}
+use Rattle.fees.specs.Fees.{chargeOf, noCharge, chargeRefusal, feeAnswer}
 use Rattle.fees.specs.Fees.{fee as feeFormula}
-use Rattle.fees.proofs.Bounds.{to-within}
+use Rattle.whole.proofs.Bounds.{to-within}
 use Rattle.fees.proofs.Laws.{FeeFits, fee-fits, fee-product, fee-granted}
 use Rattle.fees.proofs.fee.Statement.{statement}
 use Rattle.fees.proofs.fee.Tie as tie
@@ -32,8 +32,8 @@ size-fits c = search needs
 -- what the tests found
 found : (c : tie.After-unless2) →
     let s = c .before .before .before .before in
-    c .unless2 .result ≡ feeRefusal (s .before .args .price) (s .before .args .capacity)
-unfolding feeRefusal
+    c .unless2 .result ≡ chargeRefusal (s .before .args .price) (s .before .args .capacity)
+unfolding chargeRefusal
 found c =
     let s = c .before .before .before .before in
     let m = c .before .before in
@@ -51,21 +51,21 @@ nearest-requires : tie.Need-nearest-requires
 nearest-requires c κs = search needs
 
 returns : tie.Need-returns
-unfolding granted feeFormula
+unfolding chargeOf feeFormula
 returns c =
     let t = c .before in
     let s = t .before .before .before .before .before in
     let n = back w64 (c .nearest .ok) (rw (toZ-ofZ (mul-nearest t), toZ-ofZ (s .before .fits .price), toZ-ofZ (size-fits s)) at (c .nearest .ensures)) in
-    ap (λ (z : ℤ). granted z) n ∙ sym (fee-granted (fits t))
+    ap (λ (z : ℤ). chargeOf z) n ∙ sym (fee-granted (fits t))
 
-refused-requires : tie.Need-refused-requires
-refused-requires c κs = search needs
+no-charge-requires : tie.Need-no-charge-requires
+no-charge-requires c κs = search needs
 
 returns-2 : tie.Need-returns-2
 unfolding feeAnswer
 returns-2 c =
     let e = found (c .before .before) in
-    c .refused .ensures ∙ ap refused e ∙ sym (kept-old _ (refused _) (λ z. c .before .if1 .left (e ∙ z)))
+    c .no-charge .ensures ∙ ap noCharge e ∙ sym (kept-old _ (noCharge _) (λ z. c .before .if1 .left (e ∙ z)))
 
 pub fee-spec : {M : Type 1} → statement M
 fee-spec =
@@ -78,5 +78,5 @@ fee-spec =
     mul-nearest
     nearest-requires
     returns
-    refused-requires
+    no-charge-requires
     returns-2)

@@ -10,7 +10,7 @@ use borrow.Author.Needs.{needs}
 use Rattle.whole.specs.Folds.{sumTo}
 use Rattle.whole.proofs.Folds.{fold-none, fold-step}
 use Rattle.whole.proofs.Signed.{back, within-fits}
-use Rattle.fees.specs.Fees.{quarterPart, energyFee}
+use Rattle.fees.specs.Fees.{quarterPart}
 use Rattle.fees.proofs.Laws.{energy-fits, parts-within}
 use Rattle.fees.proofs.four_quarters.Statement.{statement}
 use Rattle.fees.proofs.four_quarters.Tie as tie
@@ -53,17 +53,12 @@ loop-less c = search needs
 loop-again : tie.Need-loop-again Inv-loop μ-loop
 loop-again c = (omega arith, toZ-ofZ (add-sum c) ∙ next c)
 
-nearest-requires : tie.Need-nearest-requires Inv-loop μ-loop
-nearest-requires c κs = search needs
-
 returns : tie.Need-returns Inv-loop μ-loop
-unfolding energyFee
 returns c =
-    let l = c .before .before in
+    let l = c .before in
     let s = l .before in
     let n : l .loop .q ≡ 4 = omega arith in
-    let e = rw n at (l .loop .inv .1) in
-    back w64 (c .nearest .ok) (rw (e, toZ-ofZ (s .fits .discharge), toZ-ofZ (s .fits .charge)) at (c .nearest .ensures))
+    rw (toZ-ofZ (s .fits .discharge), toZ-ofZ (s .fits .charge)) at (rw n at (l .loop .inv .1))
 
 pub four-quarters-spec : {M : Type 1} → statement M
 four-quarters-spec =
@@ -77,5 +72,4 @@ four-quarters-spec =
     add-q
     loop-less
     loop-again
-    nearest-requires
     returns)

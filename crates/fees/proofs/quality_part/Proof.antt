@@ -7,7 +7,7 @@ use mir.Facts.{toZ-ofZ}
 use borrow.Author.Needs.{needs}
 use Rattle.whole.proofs.Choice.{kept-old}
 use Rattle.whole.proofs.Signed.{back, within-fits}
-use Rattle.fees.specs.Fees.{granted, refused, qualityPart, qualityRefusal, qualityAnswer}
+use Rattle.fees.specs.Fees.{chargeOf, noCharge, qualityPart, qualityRefusal, qualityAnswer}
 use Rattle.fees.proofs.Laws.{QualityFits, quality-fits, fees-within, quality-product, quality-granted}
 use Rattle.fees.proofs.quality_part.Statement.{statement}
 use Rattle.fees.proofs.quality_part.Tie as tie
@@ -68,21 +68,21 @@ nearest-requires : tie.Need-nearest-requires
 nearest-requires c κs = search needs
 
 returns : tie.Need-returns
-unfolding granted qualityPart
+unfolding chargeOf qualityPart
 returns c =
     let t = c .before in
     let s = t .before .before .before .before .before .before in
     let n = back w64 (c .nearest .ok) (rw (toZ-ofZ (mul-nearest t), toZ-ofZ (add-nearest t), toZ-ofZ (first-fits s), toZ-ofZ (second-fits s), toZ-ofZ (s .before .before .fits .factor)) at (c .nearest .ensures)) in
-    ap (λ (z : ℤ). granted z) n ∙ sym (quality-granted (fits t))
+    ap (λ (z : ℤ). chargeOf z) n ∙ sym (quality-granted (fits t))
 
-refused-requires : tie.Need-refused-requires
-refused-requires c κs = search needs
+no-charge-requires : tie.Need-no-charge-requires
+no-charge-requires c κs = search needs
 
 returns-2 : tie.Need-returns-2
 unfolding qualityAnswer
 returns-2 c =
     let e = found (c .before .before) in
-    c .refused .ensures ∙ ap refused e ∙ sym (kept-old _ (refused _) (λ z. c .before .if1 .left (e ∙ z)))
+    c .no-charge .ensures ∙ ap noCharge e ∙ sym (kept-old _ (noCharge _) (λ z. c .before .if1 .left (e ∙ z)))
 
 pub quality-part-spec : {M : Type 1} → statement M
 quality-part-spec =
@@ -97,5 +97,5 @@ quality-part-spec =
     mul-nearest
     nearest-requires
     returns
-    refused-requires
+    no-charge-requires
     returns-2)

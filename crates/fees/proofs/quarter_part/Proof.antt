@@ -12,7 +12,8 @@ use Rattle.whole.specs.Folds.{sumOf}
 use Rattle.whole.specs.declared.Summed.{Summed}
 use Rattle.whole.proofs.Signed.{back, within-fits}
 use Rattle.whole.proofs.Sums.{summed-is}
-use Rattle.fees.specs.Fees.{signedPrice, quarter, quarterPart}
+use Rattle.units.specs.Limits.{secondsOfQuarter}
+use Rattle.fees.specs.Fees.{signedPrice, quarterPowers, quarterPart}
 use Rattle.fees.proofs.Laws.{EnergyFits, energy-fits, quarter-summable, part-within}
 use Rattle.fees.proofs.quarter_part.Statement.{statement}
 use Rattle.fees.proofs.quarter_part.Tie as tie
@@ -54,11 +55,11 @@ sum-requires c κs = search needs
 
 sum-is : (c : tie.After-struct-told) →
     let a = c .before .before .before .before .before .args in
-    toZ w64 (ofZ w64 (c .before .sum .result .sum)) ≡ sumOf (quarter (a .powers .now) (a .q))
+    toZ w64 (ofZ w64 (c .before .sum .result .sum)) ≡ sumOf (quarterPowers (a .powers .now) (a .q))
 sum-is c =
     let s = c .before .before .before .before .before in
     let q = s .args .q in
-    let n : q * 900 + 900 - q * 900 ≡ 900 = omega arith in
+    let n : q * secondsOfQuarter + secondsOfQuarter - q * secondsOfQuarter ≡ secondsOfQuarter = omega arith in
     let f : SFits w64 (c .before .sum .result .sum) = search needs in
     let e = (rw n at (c .before .sum .ensures)) ∙ summed-is _ (quarter-summable (fits s) q (s .pre .1)) in
     toZ-ofZ f ∙ ap (λ (x : Summed). x .sum) e

@@ -1,7 +1,7 @@
 -- `frame::put_bytes` meets its contract: eleven bytes, and then their sum. Assumes nothing.
 use mathlib.Core.Path.{sym, ap, _∙_}
 use borrow.Author.Needs.{needs}
-use Rattle.frame.specs.Frame.{summed}
+use Rattle.frame.specs.Frame.{withSum}
 use Rattle.frame.proofs.Frames.{eleven, length-taken, put-sum}
 use Rattle.frame.proofs.put_bytes.Statement.{statement}
 use Rattle.frame.proofs.put_bytes.Tie as tie
@@ -37,7 +37,7 @@ returns : tie.Need-returns
 returns c =
     let p = c .before .before .before .before in
     let s = p .before .before .before in
-    put-sum (s .args .bytes .now) (p .put-body .last .1 .0) (s .pre) (p .put-body .kept .1 .0) _ (c .sum .ensures) ∙ ap summed (p .put-body .ensures)
+    put-sum (s .args .bytes .now) (p .put-body .last .1 .0) (s .pre) (p .put-body .kept .1 .0) _ (c .sum .ensures) ∙ ap withSum (p .put-body .ensures)
 
 pub put-bytes-spec : {M : Type 1} → statement M
 put-bytes-spec =

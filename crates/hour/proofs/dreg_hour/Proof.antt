@@ -1,25 +1,54 @@
--- `hour::dreg_hour` meets its contract: by that of `hour`. Assumes nothing.
-use mir.Facts.{toZ-ofZ}
+-- `hour::dreg_hour` meets its contract: the terms' refusal decides; else the core, over no transfers. Assumes nothing.
+use mathlib.Core.Path.{_≡_, sym, _∙_}
+use lib.ListN.{length}
 use borrow.Author.Needs.{needs}
+use Rattle.hour.specs.Hour.{WholeHour, dRegHour, transfersOf}
+use Rattle.hour.proofs.Laws.{ofTerms, terms-refused, worked-is, left-is}
 use Rattle.hour.proofs.dreg_hour.Statement.{statement}
 use Rattle.hour.proofs.dreg_hour.Tie as tie
 
-dreg-terms-requires : tie.Need-dreg-terms-requires
-dreg-terms-requires c κs = search needs
+abbrev hour : tie.Start → WholeHour
+hour s = let a = s .args in dRegHour (a .powers .now) (a .frequencies .now) (a .terms) (a .thresholds .now) (a .factors .now)
 
-hour-requires : tie.Need-hour-requires
-hour-requires c κs = search needs
+refusal-requires : tie.Need-refusal-requires
+refusal-requires c κs = search needs
+
+refused-hour-requires : tie.Need-refused-hour-requires
+refused-hour-requires c κs = search needs
+
+returns : tie.Need-returns
+returns c =
+    let t = c .before in
+    let s = t .before .before .before in
+    terms-refused (hour s) (s .args .scores .now) (t .before .refusal .ensures) (t .if1 .taken) (c .refused-hour .ensures)
+
+slice-aggregate-worked : tie.Need-slice-aggregate-worked
+slice-aggregate-worked c = search needs
+
+worked-requires : tie.Need-worked-requires
+worked-requires c κs = search needs
 
 same-length : tie.Need-same-length
 same-length c = search needs
 
-returns : tie.Need-returns
-returns c =
-    let h = c .before .before in
-    let d = h .before .before in
-    let f = d .before .before .fits in
-    let t = rw (toZ-ofZ (f .clearing), toZ-ofZ (f .performance)) at (d .dreg-terms .ensures) in
-    (rw t at (h .hour .ensures .0), rw t at (h .hour .ensures .1))
+returns-2 : tie.Need-returns-2
+unfolding transfersOf
+returns-2 c =
+    let w = c .before .before in
+    let e = w .before .before .before in
+    let s = e .before .before .before in
+    let run = s .args .scores .now in
+    let none : ofTerms (hour s) (length run) ≡ 0 = sym (e .before .refusal .ensures) ∙ e .if1 .left in
+    (w .worked .ensures .0 ∙ worked-is (hour s) (length run) none, w .worked .ensures .1 ∙ left-is (hour s) run none)
 
 pub dreg-hour-spec : {M : Type 1} → statement M
-dreg-hour-spec = tie.close (tie.spec dreg-terms-requires hour-requires same-length returns)
+dreg-hour-spec =
+    tie.close
+    (tie.spec
+    refusal-requires
+    refused-hour-requires
+    returns
+    slice-aggregate-worked
+    worked-requires
+    same-length
+    returns-2)

@@ -1,6 +1,6 @@
 -- `hour::rate_of` meets its contract: the rate of the call's answer. Assumes nothing.
 use mathlib.Core.Path.{ap}
-use Rattle.score.specs.declared.Rated.{Rated}
+use Rattle.rate.specs.declared.Rated.{Rated}
 use borrow.Author.Needs.{needs}
 use Rattle.hour.proofs.rate_of.Statement.{statement}
 use Rattle.hour.proofs.rate_of.Tie as tie

@@ -1,11 +1,12 @@
--- `hour::refusal` meets its contract: straight-line code that mirrors the definition. Assumes nothing.
-use Rattle.hour.specs.Hour.{termsRefusal}
+-- `hour::refusal` meets its contract: straight-line code that mirrors the list of tests. Assumes nothing.
+use mir.Syntax.{w64}
+use mir.Val.{SFits}
+use mir.Facts.{toZ-ofZ}
 use borrow.Author.Needs.{needs}
+use Rattle.hour.specs.Hour.{termsRefusal}
+use Rattle.hour.proofs.Laws.{bands-test}
 use Rattle.hour.proofs.refusal.Statement.{statement}
 use Rattle.hour.proofs.refusal.Tie as tie
-
-all-within-requires : tie.Need-all-within-requires
-all-within-requires c κs = search needs
 
 unless-requires : tie.Need-unless-requires
 unless-requires c κs = search needs
@@ -13,58 +14,67 @@ unless-requires c κs = search needs
 check-requires : tie.Need-check-requires
 check-requires c κs = search needs
 
-or-else-requires : tie.Need-or-else-requires
-or-else-requires c κs = search needs
+unless-requires-2 : tie.Need-unless-requires-2
+unless-requires-2 c κs = search needs
 
 prices-fit-requires : tie.Need-prices-fit-requires
 prices-fit-requires c κs = search needs
 
-unless-requires-2 : tie.Need-unless-requires-2
-unless-requires-2 c κs = search needs
+unless-requires-3 : tie.Need-unless-requires-3
+unless-requires-3 c κs = search needs
 
 capacity-fits-requires : tie.Need-capacity-fits-requires
 capacity-fits-requires c κs = search needs
 
-unless-requires-3 : tie.Need-unless-requires-3
-unless-requires-3 c κs = search needs
+unless-requires-4 : tie.Need-unless-requires-4
+unless-requires-4 c κs = search needs
 
 lengths-fit-requires : tie.Need-lengths-fit-requires
 lengths-fit-requires c κs = search needs
 
-unless-requires-4 : tie.Need-unless-requires-4
-unless-requires-4 c κs = search needs
+unless-requires-5 : tie.Need-unless-requires-5
+unless-requires-5 c κs = search needs
+
+clearing-fits : (c : tie.After-struct-told2) → SFits w64 (c .before .before .before .before .before .args .terms .clearing)
+clearing-fits c = search needs
+
+performance-fits : (c : tie.After-struct-told2) → SFits w64 (c .before .before .before .before .before .args .terms .performance)
+performance-fits c = search needs
 
 returns : tie.Need-returns
 unfolding termsRefusal
 returns c =
-    let size = c .before .before .before in
+    let lengths = c .before in
+    let size = lengths .before .before in
     let prices = size .before .before in
-    let bands = prices .before .before in
-    let targets = bands .before .before in
+    let bands = prices .before .before .before in
+    let check = bands .before in
+    let a = check .before .before .args in
     simp (
-      c .before .lengths-fit .ensures,
-      c .before .before .unless3 .ensures,
+      lengths .lengths-fit .ensures,
+      lengths .before .unless4 .ensures,
       size .capacity-fits .ensures,
-      size .before .unless2 .ensures,
+      size .before .unless3 .ensures,
       prices .prices-fit .ensures,
-      prices .before .or-else .ensures,
-      bands .check .ensures,
-      bands .before .unless .ensures,
-      targets .all-within .ensures,
-    ) at (c .unless4 .ensures)
+      bands .unless2 .ensures,
+      check .check .ensures,
+      bands-test (a .thresholds .now) (a .factors .now),
+      check .before .unless .ensures,
+      toZ-ofZ (clearing-fits (prices .before)),
+      toZ-ofZ (performance-fits (prices .before)),
+    ) at (c .unless5 .ensures)
 
 pub refusal-spec : {M : Type 1} → statement M
 refusal-spec =
     tie.close
     (tie.spec
-    all-within-requires
     unless-requires
     check-requires
-    or-else-requires
-    prices-fit-requires
     unless-requires-2
-    capacity-fits-requires
+    prices-fit-requires
     unless-requires-3
-    lengths-fit-requires
+    capacity-fits-requires
     unless-requires-4
+    lengths-fit-requires
+    unless-requires-5
     returns)

@@ -1,6 +1,6 @@
 -- `hours::pairs_in` meets its contract. Assumes nothing.
 use native.Mathlib.Omega.{arith}
-use Rattle.hours.specs.Hours.{pairsIn}
+use Rattle.hours.specs.Inner.{pairsIn}
 use Rattle.hours.proofs.pairs_in.Statement.{statement}
 use Rattle.hours.proofs.pairs_in.Tie as tie
 

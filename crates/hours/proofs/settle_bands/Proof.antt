@@ -1,12 +1,13 @@
 -- `hours::settle_bands` meets its contract: the front of each column is lent to the hour. Assumes nothing.
 use borrow.Author.Needs.{needs}
-use mathlib.Core.Path.{_≡_, sym, ap, ap₂, _∙_}
+use mathlib.Core.Path.{sym, ap, ap₂, _∙_}
 use mathlib.Core.List.{List}
 use lib.IntN.{ℤ}
 use lib.ListN.{length}
-use Rattle.hour.specs.Hour.{hourOf, scoresLeft}
-use Rattle.words.specs.Numbers.{column}
-use Rattle.words.proofs.Columns.{Front, front}
+use Rattle.hour.specs.Hour.{hourAnswer, scoresLeft}
+use Rattle.numbers.specs.Numbers.{column}
+use Rattle.numbers.proofs.Columns.{Front, front}
+use Rattle.hours.specs.Hours.{serviceOf, hourFrom}
 use Rattle.hours.proofs.settle_bands.Statement.{statement}
 use Rattle.hours.proofs.settle_bands.Tie as tie
 
@@ -35,17 +36,17 @@ factors c = front _ _ _ _ 100 (c .pairs-in .ensures .1) (c .before .before .colu
 array-share-prefix-thresholds : tie.Need-array-share-prefix-thresholds
 array-share-prefix-thresholds c = search needs
 
-slice-aggregate-hour : tie.Need-slice-aggregate-hour
-slice-aggregate-hour c = sym (thresholds (c .before) .long)
+slice-aggregate-settle-kind : tie.Need-slice-aggregate-settle-kind
+slice-aggregate-settle-kind c = sym (thresholds (c .before) .long)
 
 array-share-prefix-factors : tie.Need-array-share-prefix-factors
 array-share-prefix-factors c = search needs
 
-slice-aggregate-hour-2 : tie.Need-slice-aggregate-hour-2
-slice-aggregate-hour-2 c = sym (factors (c .before .before) .long)
+slice-aggregate-settle-kind-2 : tie.Need-slice-aggregate-settle-kind-2
+slice-aggregate-settle-kind-2 c = sym (factors (c .before .before) .long)
 
-hour-requires : tie.Need-hour-requires
-hour-requires c κs = search needs
+settle-kind-requires : tie.Need-settle-kind-requires
+settle-kind-requires c κs = search needs
 
 same-length : tie.Need-same-length
 same-length c = search needs
@@ -58,8 +59,8 @@ returns c =
     let bands = a .bands .now in
     let t = thresholds p .is ∙ ap (column bands 0) (p .pairs-in .ensures .0) in
     let g = factors p .is ∙ ap (column bands 1) (p .pairs-in .ensures .0) in (
-      h .hour .ensures .0 ∙ ap₂ (λ (t g : List ℤ). hourOf (a .powers .now) (a .frequencies .now) (length (a .scores .now)) (a .terms) t g) t g,
-      h .hour .ensures .1 ∙ ap₂ (λ (t g : List ℤ). scoresLeft (a .powers .now) (a .frequencies .now) (a .terms) t g (a .scores .now)) t g,
+      h .settle-kind .ensures .0 ∙ ap₂ (λ (t g : List ℤ). hourAnswer (hourFrom (a .powers .now) (a .frequencies .now) (a .terms) (serviceOf (a .hour) (a .shift)) t g) (length (a .scores .now))) t g,
+      h .settle-kind .ensures .1 ∙ ap₂ (λ (t g : List ℤ). scoresLeft (hourFrom (a .powers .now) (a .frequencies .now) (a .terms) (serviceOf (a .hour) (a .shift)) t g) (a .scores .now)) t g,
     )
 
 pub settle-bands-spec : {M : Type 1} → statement M
@@ -72,9 +73,9 @@ settle-bands-spec =
     column-requires-2
     pairs-in-requires
     array-share-prefix-thresholds
-    slice-aggregate-hour
+    slice-aggregate-settle-kind
     array-share-prefix-factors
-    slice-aggregate-hour-2
-    hour-requires
+    slice-aggregate-settle-kind-2
+    settle-kind-requires
     same-length
     returns)

@@ -2,6 +2,8 @@
 use borrow.Author.Needs.{needs}
 use mathlib.Core.Path.{_≡_, _∙_}
 use lib.ListN.{length}
+use Rattle.units.specs.Limits.{secondsOfHour}
+use Rattle.hours.specs.Hours.{serviceOf}
 use Rattle.hours.proofs.HourLaws.{settlement-is, left-is}
 use Rattle.hours.proofs.settle_by.Statement.{statement}
 use Rattle.hours.proofs.settle_by.Tie as tie
@@ -32,9 +34,10 @@ returns c =
     let a = c .before .before .before .before .before .before .before .before .before .before .args in
     let y = c .before .before .before .before .before in
     let x = y .before .before .before in
-    let long : length (a .scores .now) ≡ 3600 = search needs in (
-      c .settle-bands .ensures .0 ∙ settlement-is (a .terms) (a .bands .now) (a .readings .now) _ _ (a .scores .now) (x .column .ensures) (y .column2 .ensures) long,
-      c .settle-bands .ensures .1 ∙ left-is (a .terms) (a .bands .now) (a .readings .now) _ _ (a .scores .now) (x .column .ensures) (y .column2 .ensures) long,
+    let long : length (a .scores .now) ≡ secondsOfHour = search needs in
+    let counts = c .before .before .before .before .before .before .before .before .before .before .pre in (
+      c .settle-bands .ensures .0 ∙ settlement-is (a .terms) (serviceOf (a .hour) (a .shift)) (a .bands .now) (a .readings .now) _ _ (a .scores .now) (x .column .ensures) (y .column2 .ensures) long counts,
+      c .settle-bands .ensures .1 ∙ left-is (a .terms) (serviceOf (a .hour) (a .shift)) (a .bands .now) (a .readings .now) _ _ (a .scores .now) (x .column .ensures) (y .column2 .ensures) long counts,
     )
 
 pub settle-by-spec : {M : Type 1} → statement M

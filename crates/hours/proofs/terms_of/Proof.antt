@@ -1,27 +1,31 @@
--- `hours::terms_of` meets its contract: by the kind of hour. Assumes nothing.
+-- `hours::terms_of` meets its contract: the terms stand side by side. Assumes nothing.
+use lib.IntN.{pos}
+use lib.ListN.{getD}
+use mir.Syntax.{w64}
+use mir.Val.{SFits}
+use mir.Facts.{toZ-ofZ}
+use Rattle.hours.specs.Hours.{termsOf}
 use borrow.Author.Needs.{needs}
 use Rattle.hours.proofs.terms_of.Statement.{statement}
 use Rattle.hours.proofs.terms_of.Tie as tie
 
-enum-told : tie.Need-enum-told
-enum-told c = search needs
+array-copy-out-t5 : tie.Need-array-copy-out-t5
+array-copy-out-t5 c = search needs
 
-dreg-terms-requires : tie.Need-dreg-terms-requires
-dreg-terms-requires c κs = search needs
+array-copy-out-t9 : tie.Need-array-copy-out-t9
+array-copy-out-t9 c = search needs
 
-enum-told-2 : tie.Need-enum-told-2
-enum-told-2 c = search needs
-
-edreg-terms-requires : tie.Need-edreg-terms-requires
-edreg-terms-requires c κs = search needs
+array-copy-out-t12 : tie.Need-array-copy-out-t12
+array-copy-out-t12 c = search needs
 
 returns : tie.Need-returns
-returns c = rw (c .before .enum-told .given .1) (c .dreg-terms .ensures)
-
-returns-2 : tie.Need-returns-2
-returns-2 c = rw (c .before .enum-told2 .given .1) (c .edreg-terms .ensures)
+unfolding termsOf
+returns c =
+    let head = c .before .before .before .args .t1 in
+    let n0 : SFits w64 (getD head 0 (pos 0)) = search needs in
+    let n1 : SFits w64 (getD head 1 (pos 0)) = search needs in
+    let n2 : SFits w64 (getD head 2 (pos 0)) = search needs in
+    rw (toZ-ofZ n0, toZ-ofZ n1, toZ-ofZ n2)
 
 pub terms-of-spec : {M : Type 1} → statement M
-terms-of-spec =
-    tie.close
-    (tie.spec enum-told dreg-terms-requires enum-told-2 edreg-terms-requires returns returns-2)
+terms-of-spec = tie.close (tie.spec array-copy-out-t5 array-copy-out-t9 array-copy-out-t12 returns)

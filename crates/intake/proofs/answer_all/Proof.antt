@@ -9,21 +9,23 @@ use mir.Syntax.{w64}
 use mir.Val.{Fits}
 use Rattle.intake.specs.declared.Line.{Line}
 use Rattle.intake.specs.Lines.{beforeEnd}
-use Rattle.intake.specs.Book.{Book, answerTo, answersTo}
-use Rattle.intake.specs.Desk.{bookOf, deskOf, heldIn, keptIn, linesIn, leftIn}
+use Rattle.book.specs.Book.{Book}
+use Rattle.intake.specs.Answers.{answerTo, answersTo}
+use Rattle.book.specs.Inner.{bookOf, coverOf}
+use Rattle.intake.specs.Inner.{heldIn, keptIn, linesIn, leftIn}
 use Rattle.intake.proofs.Going.{Left, left-start, left-line, left-all, left-go, left-stop}
 use Rattle.intake.proofs.answer_all.Statement.{statement}
 use Rattle.intake.proofs.answer_all.Tie as tie
 
 abbrev Inv-loop : tie.InvT-loop
-Inv-loop chunk filled₀ amounts₀ out₀ desk₀ line₀ from₀ at₀ end₀ filled amounts out desk line from at end =
-    (length filled ≡ 744) × (length amounts ≡ 744) × (length out ≡ length out₀) × (from ≤ length chunk)
+Inv-loop chunk marks₀ amounts₀ out₀ cover₀ line₀ from₀ at₀ end₀ marks amounts out cover line from at end =
+    (length marks ≡ length marks₀) × (length amounts ≡ length amounts₀) × (length out ≡ length out₀) × (from ≤ length chunk)
     × (end ≡ from + length (beforeEnd (drop from chunk))) × (at ≤ 12 * from)
-    × Left (bookOf desk₀ filled₀ amounts₀) (linesIn line₀ chunk) out₀ 0 (bookOf desk filled amounts) (linesIn line (drop from chunk)) out at
+    × Left (bookOf cover₀ marks₀ amounts₀) (linesIn line₀ chunk) out₀ 0 (bookOf cover marks amounts) (linesIn line (drop from chunk)) out at
     × (leftIn line₀ chunk ≡ leftIn line (drop from chunk))
 
 abbrev μ-loop : tie.MeasureT-loop
-μ-loop chunk filled₀ amounts₀ out₀ desk₀ line₀ from₀ at₀ end₀ filled amounts out desk line from at end =
+μ-loop chunk marks₀ amounts₀ out₀ cover₀ line₀ from₀ at₀ end₀ marks amounts out cover line from at end =
     length chunk - from
 
 -- the place after a line end
@@ -35,13 +37,13 @@ line-end-requires c κs = omega arith
 
 loop-holds : tie.Need-loop-holds Inv-loop μ-loop
 loop-holds c = let a = c .before .before .before .before .before .before .args in (
-  c .before .before .before .before .before .before .pre .1 .0,
-  c .before .before .before .before .before .before .pre .1 .1,
+  refl,
+  refl,
   refl,
   omega arith,
   c .line-end .ensures,
   omega arith,
-  left-start (bookOf (a .state .desk) (a .filled .now) (a .amounts .now)) (linesIn (a .state .line) (a .chunk .now)) (a .out .now) 0,
+  left-start (bookOf (a .state .cover) (a .marks .now) (a .amounts .now)) (linesIn (a .state .line) (a .chunk .now)) (a .out .now) 0,
   refl,
 )
 
@@ -73,12 +75,12 @@ loop-less c = omega arith
 room : (c : tie.After-answer Inv-loop μ-loop) →
     let l = c .before .before .before .before .before .before .loop in
     let a = c .before .before .before .before .before .before .before .before .before .before .before .before .before .args in
-    l .at + length (answerTo (bookOf (l .desk) (l .filled) (l .amounts)) (heldIn (keptIn (l .line) (take (l .end - l .from) (drop (l .from) (a .chunk .now)))))) ≤ length (l .out)
+    l .at + length (answerTo (bookOf (l .cover) (l .marks) (l .amounts)) (heldIn (keptIn (l .line) (take (l .end - l .from) (drop (l .from) (a .chunk .now)))))) ≤ length (l .out)
 room c =
     let r = c .answer .ensures in
     let t = c .before .before .before .before .before .loop-test .taken in
     let l = c .before .before .before .before .before .before .loop in
-    omega (arith, r .1 .0, r .1 .1 .1, l .inv .5, l .inv .4, l .inv .2, c .before .before .before .before .before .before .before .before .before .before .before .before .before .pre .0)
+    omega (arith, r .1 .0, r .1 .1 .1, l .inv .5, l .inv .4, l .inv .2, c .before .before .before .before .before .before .before .before .before .before .before .before .before .pre)
 
 loop-again : tie.Need-loop-again Inv-loop μ-loop
 loop-again c = let q = c .before .before .before .before .before .before .before .before in
@@ -96,8 +98,8 @@ loop-again c = let q = c .before .before .before .before .before .before .before
       omega (arith, t),
       c .line-end2 .ensures,
       omega (arith, r .1 .1 .1, inv .4, inv .5),
-      left-line (bookOf (a .state .desk) (a .filled .now) (a .amounts .now)) (linesIn (a .state .line) (a .chunk .now)) (a .out .now) 0
-          (bookOf (l .desk) (l .filled) (l .amounts)) _ (l .line) (c .before .empty .result) (a .chunk .now) (l .from) (l .end) (l .out) _ (l .at) _
+      left-line (bookOf (a .state .cover) (a .marks .now) (a .amounts .now)) (linesIn (a .state .line) (a .chunk .now)) (a .out .now) 0
+          (bookOf (l .cover) (l .marks) (l .amounts)) _ (l .line) (c .before .empty .result) (a .chunk .now) (l .from) (l .end) (l .out) _ (l .at) _
           (inv .4) t (c .before .empty .ensures) (inv .6) (room q) (r .0) (r .1 .0) (r .1 .1 .0),
       inv .7 ∙ left-go (l .line) (a .chunk .now) (l .from) (l .end) (inv .4) t ∙ ap (λ (x : Line). leftIn x (drop (l .end + 1) (a .chunk .now))) (sym (c .before .empty .ensures)),
     )
@@ -115,10 +117,10 @@ keep-requires : tie.Need-keep-requires Inv-loop μ-loop
 keep-requires c κs = search needs
 
 same-length : tie.Need-same-length Inv-loop μ-loop
-same-length c = c .before .before .before .loop .inv .0 ∙ sym (c .before .before .before .before .before .before .before .before .before .before .pre .1 .0)
+same-length c = c .before .before .before .loop .inv .0
 
 same-length-2 : tie.Need-same-length-2 Inv-loop μ-loop
-same-length-2 c = c .before .before .before .loop .inv .1 ∙ sym (c .before .before .before .before .before .before .before .before .before .before .pre .1 .1)
+same-length-2 c = c .before .before .before .loop .inv .1
 
 same-length-3 : tie.Need-same-length-3 Inv-loop μ-loop
 same-length-3 c = c .before .before .before .loop .inv .2
@@ -127,13 +129,13 @@ returns : tie.Need-returns Inv-loop μ-loop
 returns c = let l = c .before .before .before .loop in
     let a = c .before .before .before .before .before .before .before .before .before .before .args in
     let e = c .before .before .loop-test .left in
-    let first = bookOf (a .state .desk) (a .filled .now) (a .amounts .now) in
+    let first = bookOf (a .state .cover) (a .marks .now) (a .amounts .now) in
     let all = linesIn (a .state .line) (a .chunk .now) in
-    let d = left-all first all (a .out .now) 0 (bookOf (l .desk) (l .filled) (l .amounts)) (l .line) (a .chunk .now) (l .from) (l .end) (l .out) (l .at) (l .inv .4) e (l .inv .6) in
+    let d = left-all first all (a .out .now) 0 (bookOf (l .cover) (l .marks) (l .amounts)) (l .line) (a .chunk .now) (l .from) (l .end) (l .out) (l .at) (l .inv .4) e (l .inv .6) in
     let begun = c .keep .ensures ∙ sym (left-stop (l .line) (a .chunk .now) (l .from) (l .end) (l .inv .4) e) ∙ sym (l .inv .7) in
     let long : l .at ≡ length (answersTo first all) = omega (arith, d .1 .0) in (
-      λ i. record { refusal = 0; state = record { desk = deskOf (d .0 i); line = begun i }; written = long i },
-      (ap (λ (b : Book). b .board .marks) (d .0), (ap (λ (b : Book). b .board .items) (d .0), (d .1 .1, omega (arith, l .inv .3, l .inv .5, c .before .before .before .before .before .before .before .before .before .before .pre .0)))),
+      λ i. record { refusal = 0; state = record { cover = coverOf (d .0 i); line = begun i }; written = long i },
+      (ap (λ (b : Book). b .board .marks) (d .0), (ap (λ (b : Book). b .board .amounts) (d .0), (d .1 .1, omega (arith, l .inv .3, l .inv .5, c .before .before .before .before .before .before .before .before .before .before .pre)))),
     )
 
 pub answer-all-spec : {M : Type 1} → statement M

@@ -3,7 +3,7 @@ use mathlib.Core.Path.{ap, _∙_}
 use lib.Dec.{leb}
 use Rattle.whole.specs.Choice.{unless}
 use Rattle.units.specs.Refusals.{wrongLength}
-use Rattle.intake.specs.Desk.{endRefusal}
+use Rattle.intake.specs.Inner.{endRefusal}
 use borrow.Author.Needs.{needs}
 use Rattle.intake.proofs.end_refusal.Statement.{statement}
 use Rattle.intake.proofs.end_refusal.Tie as tie

@@ -3,7 +3,8 @@ use borrow.Author.Needs.{needs}
 use borrow.Author.Tests.{eq-eqb, ne-eqb}
 use native.Mathlib.Omega.{arith}
 use mathlib.Core.Path.{_≡_, refl, sym, _∙_}
-use Rattle.intake.specs.Desk.{bookOf, fedNumber, fedOf, fedMarks, fedAmounts, fedOut}
+use Rattle.book.specs.Inner.{bookOf}
+use Rattle.intake.specs.Inner.{fedNumber, fedOf, fedMarks, fedAmounts, fedOut}
 use Rattle.intake.proofs.Kept.{feed-room}
 use Rattle.intake.proofs.feed.Statement.{statement}
 use Rattle.intake.proofs.feed.Tie as tie
@@ -19,7 +20,7 @@ same-length-2 c = search needs
 
 number : (c : tie.After-feed-refusal) →
     let a = c .before .before .before .before .before .before .before .args in
-    c .feed-refusal .result ≡ fedNumber (a .state) (a .chunk .now) (a .filled .now) (a .amounts .now) (a .out .now)
+    c .feed-refusal .result ≡ fedNumber (a .state) (a .chunk .now) (a .marks .now) (a .amounts .now) (a .out .now)
 number c = c .feed-refusal .ensures
 
 returns : tie.Need-returns
@@ -30,14 +31,14 @@ returns c =
 
 none : (c : tie.Else1) →
     let a = c .before .before .before .before .before .before .before .before .args in
-    fedNumber (a .state) (a .chunk .now) (a .filled .now) (a .amounts .now) (a .out .now) ≡ 0
+    fedNumber (a .state) (a .chunk .now) (a .marks .now) (a .amounts .now) (a .out .now) ≡ 0
 none c = sym (number (c .before)) ∙ c .if1 .left
 
 answer-all-requires : tie.Need-answer-all-requires
 answer-all-requires c κs =
     let e = c .before .before .before in
     let a = e .before .before .before .before .before .before .before .before .args in
-    feed-room (bookOf (a .state .desk) (a .filled .now) (a .amounts .now)) _ _ (none e)
+    feed-room (bookOf (a .state .cover) (a .marks .now) (a .amounts .now)) _ _ (none e)
 
 same-length-3 : tie.Need-same-length-3
 same-length-3 c = search needs

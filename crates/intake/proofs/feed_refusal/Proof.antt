@@ -4,7 +4,7 @@ use mathlib.Core.Path.{ap, _∙_}
 use lib.Dec.{leb}
 use Rattle.whole.specs.Choice.{unless}
 use Rattle.units.specs.Refusals.{wrongLength}
-use Rattle.intake.specs.Desk.{feedRefusal}
+use Rattle.intake.specs.Inner.{feedRefusal}
 use borrow.Author.Needs.{needs}
 use Rattle.intake.proofs.feed_refusal.Statement.{statement}
 use Rattle.intake.proofs.feed_refusal.Tie as tie

@@ -3,7 +3,8 @@ use borrow.Author.Needs.{needs}
 use borrow.Author.Tests.{eq-eqb, ne-eqb}
 use native.Mathlib.Omega.{arith}
 use mathlib.Core.Path.{_≡_, refl, sym, _∙_}
-use Rattle.intake.specs.Desk.{bookOf, endNumber, finishedOf, endMarks, endAmounts, endOut}
+use Rattle.book.specs.Inner.{bookOf}
+use Rattle.intake.specs.Inner.{endNumber, finishedOf, endMarks, endAmounts, endOut}
 use Rattle.intake.proofs.Kept.{end-room}
 use Rattle.intake.proofs.finish.Statement.{statement}
 use Rattle.intake.proofs.finish.Tie as tie
@@ -19,7 +20,7 @@ same-length-2 c = search needs
 
 number : (c : tie.After-end-refusal) →
     let a = c .before .before .before .before .before .before .args in
-    c .end-refusal .result ≡ endNumber (a .state) (a .filled .now) (a .amounts .now) (a .out .now)
+    c .end-refusal .result ≡ endNumber (a .state) (a .marks .now) (a .amounts .now) (a .out .now)
 number c = c .end-refusal .ensures
 
 returns : tie.Need-returns
@@ -30,14 +31,14 @@ returns c =
 
 none : (c : tie.Else1) →
     let a = c .before .before .before .before .before .before .before .args in
-    endNumber (a .state) (a .filled .now) (a .amounts .now) (a .out .now) ≡ 0
+    endNumber (a .state) (a .marks .now) (a .amounts .now) (a .out .now) ≡ 0
 none c = sym (number (c .before)) ∙ c .if1 .left
 
 finish-all-requires : tie.Need-finish-all-requires
 finish-all-requires c κs =
     let e = c .before .before .before in
     let a = e .before .before .before .before .before .before .before .args in
-    end-room (bookOf (a .state .desk) (a .filled .now) (a .amounts .now)) _ (none e)
+    end-room (bookOf (a .state .cover) (a .marks .now) (a .amounts .now)) _ (none e)
 
 same-length-3 : tie.Need-same-length-3
 same-length-3 c = search needs

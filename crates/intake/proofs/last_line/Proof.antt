@@ -4,7 +4,7 @@ use native.Mathlib.Omega.{arith}
 use mathlib.Core.Path.{sym, ap, _∙_}
 use lib.ListN.{length}
 use Rattle.text.specs.Text.{put}
-use Rattle.intake.specs.Desk.{bookOf}
+use Rattle.book.specs.Inner.{bookOf}
 use Rattle.intake.proofs.Going.{last-none, last-some}
 use Rattle.text.proofs.Places.{put-nothing}
 use Rattle.intake.proofs.last_line.Statement.{statement}
@@ -12,7 +12,7 @@ use Rattle.intake.proofs.last_line.Tie as tie
 
 returns : tie.Need-returns
 returns c = let a = c .before .before .before .before .before .args in
-    let n = last-none (bookOf (a .state .desk) (a .filled .now) (a .amounts .now)) (a .state .line) (c .if1 .taken) in
+    let n = last-none (bookOf (a .state .cover) (a .marks .now) (a .amounts .now)) (a .state .line) (c .if1 .taken) in
     (sym (n .0), (ap length (sym (n .1)), (sym (ap (put (a .out .now) 0) (n .1) ∙ put-nothing (a .out .now) 0), omega arith)))
 
 slice-aggregate-answer : tie.Need-slice-aggregate-answer
@@ -34,7 +34,7 @@ returns-2 : tie.Need-returns-2
 returns-2 c = let q = c .before .before .before .before .before in
     let e = q .before .before .before .before .before in
     let a = e .before .before .before .before .before .args in
-    let n = last-some (bookOf (a .state .desk) (a .filled .now) (a .amounts .now)) (a .state .line) (e .if1 .left) in
+    let n = last-some (bookOf (a .state .cover) (a .marks .now) (a .amounts .now)) (a .state .line) (e .if1 .left) in
     let r = q .answer .ensures in
     (r .0 ∙ sym (n .0), (omega (arith, r .1 .0, ap length (n .1)), (r .1 .1 .0 ∙ ap (put (a .out .now) 0) (sym (n .1)), omega (arith, r .1 .1 .1))))
 

@@ -2,6 +2,7 @@
 use native.Mathlib.Omega.{arith}
 use Prim.Native.Nat.{_<_}
 use mathlib.Core.Path.{_≡_, refl, sym}
+use Rattle.units.specs.Limits.{monthPlaces}
 use Rattle.whole.proofs.Choice.{and-both}
 use lib.Dec.{ltb}
 use lib.ListN.{length}
@@ -10,11 +11,11 @@ use Rattle.ledger.proofs.main.Statement.{statement}
 use Rattle.ledger.proofs.main.Tie as tie
 
 abbrev Inv-loop : tie.InvT-loop
-Inv-loop filled₀ amounts₀ input₀ out₀ now₀ turns₀ filled amounts input out now turns =
-    (length filled ≡ 744) × (length amounts ≡ 744) × (length input ≡ 65536) × (length out ≡ 786432)
+Inv-loop marks₀ amounts₀ input₀ out₀ now₀ turns₀ marks amounts input out now turns =
+    (length marks ≡ monthPlaces) × (length amounts ≡ monthPlaces) × (length input ≡ 65536) × (length out ≡ 786432)
 
 abbrev μ-loop : tie.MeasureT-loop
-μ-loop filled₀ amounts₀ input₀ out₀ now₀ turns₀ filled amounts input out now turns = turns
+μ-loop marks₀ amounts₀ input₀ out₀ now₀ turns₀ marks amounts input out now turns = turns
 
 large-buffer-requires : tie.Need-large-buffer-requires Inv-loop μ-loop
 large-buffer-requires c κs = tt

@@ -2,24 +2,20 @@
 use native.Mathlib.Omega.{arith}
 use Prim.Native.Nat.{_<_}
 use mathlib.Core.Path.{_≡_, refl, sym}
+use Rattle.units.specs.Limits.{monthPlaces}
 use Rattle.whole.proofs.Choice.{and-both}
 use lib.Dec.{ltb}
 use lib.ListN.{length}
 use borrow.Author.Tests.{ltb-true}
 use Rattle.ledger_cases.proofs.main.Statement.{statement}
 use Rattle.ledger_cases.proofs.main.Tie as tie
-use Rattle.ledger_cases.proofs.main.Reads as reads
-use Rattle.ledger_cases.proofs.main.Lts as lts
-use Rattle.intake.proofs.start.Reads as start-reads
-use Rattle.io.proofs.buffer.Reads as buffer-reads
-use Rattle.ledger_cases.proofs.read_once.Reads as read-once-reads
 
 abbrev Inv-loop : tie.InvT-loop
-Inv-loop filled₀ amounts₀ input₀ out₀ now₀ turns₀ filled amounts input out now turns =
-    (length filled ≡ 744) × (length amounts ≡ 744) × (length input ≡ 4096) × (length out ≡ 64)
+Inv-loop marks₀ amounts₀ input₀ out₀ now₀ turns₀ marks amounts input out now turns =
+    (length marks ≡ monthPlaces) × (length amounts ≡ monthPlaces) × (length input ≡ 4096) × (length out ≡ 64)
 
 abbrev μ-loop : tie.MeasureT-loop
-μ-loop filled₀ amounts₀ input₀ out₀ now₀ turns₀ filled amounts input out now turns = turns
+μ-loop marks₀ amounts₀ input₀ out₀ now₀ turns₀ marks amounts input out now turns = turns
 
 buffer-requires : tie.Need-buffer-requires Inv-loop μ-loop
 buffer-requires c κs = tt

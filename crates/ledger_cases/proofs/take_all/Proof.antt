@@ -5,16 +5,13 @@ use mathlib.Core.Path.{_≡_, refl, _∙_}
 use lib.ListN.{length}
 use Rattle.ledger_cases.proofs.take_all.Statement.{statement}
 use Rattle.ledger_cases.proofs.take_all.Tie as tie
-use Rattle.ledger_cases.proofs.take_all.Reads as reads
-use Rattle.ledger_cases.proofs.take_all.Lts as lts
-use Rattle.ledger_cases.proofs.take_byte.Reads as take-byte-reads
 
 abbrev Inv-loop : tie.InvT-loop
-Inv-loop bytes filled₀ amounts₀ out₀ now₀ i₀ filled amounts out now i =
-    (length filled ≡ length filled₀) × (length amounts ≡ length amounts₀) × (length out ≡ length out₀)
+Inv-loop bytes marks₀ amounts₀ out₀ now₀ i₀ marks amounts out now i =
+    (length marks ≡ length marks₀) × (length amounts ≡ length amounts₀) × (length out ≡ length out₀)
 
 abbrev μ-loop : tie.MeasureT-loop
-μ-loop bytes filled₀ amounts₀ out₀ now₀ i₀ filled amounts out now i = length bytes - i
+μ-loop bytes marks₀ amounts₀ out₀ now₀ i₀ marks amounts out now i = length bytes - i
 
 loop-holds : tie.Need-loop-holds Inv-loop μ-loop
 loop-holds c = (refl, refl, refl)

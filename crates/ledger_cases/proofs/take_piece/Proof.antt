@@ -5,10 +5,6 @@ use lib.Seq.{length-take-le}
 use borrow.Author.Needs.{needs}
 use Rattle.ledger_cases.proofs.take_piece.Statement.{statement}
 use Rattle.ledger_cases.proofs.take_piece.Tie as tie
-use Rattle.ledger_cases.proofs.take_piece.Reads as reads
-use Rattle.ledger_cases.proofs.take_piece.Lts as lts
-use Rattle.intake.proofs.feed.Reads as feed-reads
-use Rattle.io.proofs.write_all.Reads as write-all-reads
 
 write-all-requires : tie.Need-write-all-requires
 write-all-requires c κs = search needs

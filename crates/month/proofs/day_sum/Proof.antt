@@ -7,7 +7,8 @@ use mir.Syntax.{w64}
 use mir.Val.{SFits}
 use mir.Facts.{toZ-ofZ}
 use Rattle.whole.specs.Whole.{summed}
-use Rattle.board.specs.Board.{dollars}
+use Rattle.units.specs.Limits.{hoursOfDay}
+use Rattle.units.specs.Units.{dollars}
 use borrow.Author.Needs.{needs}
 use Rattle.month.proofs.day_sum.Statement.{statement}
 use Rattle.month.proofs.day_sum.Tie as tie
@@ -33,7 +34,7 @@ sum-requires c κs = search needs
 returns : tie.Need-returns
 returns c =
     let a = c .before .before .before .args in
-    let n : a .from + 24 - a .from ≡ 24 = omega arith in
+    let n : a .from + hoursOfDay - a .from ≡ hoursOfDay = omega arith in
     let f : SFits w64 (c .before .sum .result .sum) = search needs in
     ap dollars (toZ-ofZ f ∙ ap (λ s. s .sum) (c .before .sum .ensures) ∙ ap (λ (k : ℕ). summed (take k (drop (a .from) (a .amounts .now))) .sum) n)
 

@@ -7,16 +7,17 @@ use lib.ListN.{getD}
 use borrow.Author.Needs.{needs}
 use Rattle.whole.specs.Choice.{pick}
 use Rattle.whole.specs.Folds.{countTo}
+use Rattle.units.specs.Limits.{monthPlaces}
 use Rattle.whole.proofs.Folds.{fold-none, fold-step}
 use Rattle.month.proofs.Core.{byte-is, byte-le}
 use Rattle.month.proofs.standing_in.Statement.{statement}
 use Rattle.month.proofs.standing_in.Tie as tie
 
 abbrev Inv-loop : tie.InvT-loop
-Inv-loop filled n₀ p₀ n p = (p ≤ 744) × (n ≤ p) × (n ≡ countTo p (λ q. getD filled q false))
+Inv-loop marks n₀ p₀ n p = (p ≤ monthPlaces) × (n ≤ p) × (n ≡ countTo p (λ q. getD marks q false))
 
 abbrev μ-loop : tie.MeasureT-loop
-μ-loop filled n₀ p₀ n p = 744 - p
+μ-loop marks n₀ p₀ n p = monthPlaces - p
 
 loop-holds : tie.Need-loop-holds Inv-loop μ-loop
 loop-holds c = (omega arith, omega arith, sym (fold-none 0 _+_ _))
@@ -28,7 +29,7 @@ cast-n : tie.Need-cast-n Inv-loop μ-loop
 cast-n c = search needs
 
 add-n : tie.Need-add-n Inv-loop μ-loop
-add-n c = let b = getD (c .before .before .before .args .filled .now) (c .before .before .loop .p) false in record { fits = omega (arith, byte-le b) }
+add-n c = let b = getD (c .before .before .before .args .marks .now) (c .before .before .loop .p) false in record { fits = omega (arith, byte-le b) }
 
 add-p : tie.Need-add-p Inv-loop μ-loop
 add-p c = omega arith
@@ -39,12 +40,12 @@ loop-less c = omega arith
 loop-again : tie.Need-loop-again Inv-loop μ-loop
 loop-again c =
     let l = c .before .before in
-    let fs = l .before .args .filled .now in
+    let fs = l .before .args .marks .now in
     let b = getD fs (l .loop .p) false in
     (omega arith, omega (arith, byte-le b), omega (arith, byte-is b, fold-step 0 _+_ (l .loop .p) (λ q. pick (getD fs q false) 1 0)))
 
 returns : tie.Need-returns Inv-loop μ-loop
-returns c = let e : c .before .loop .p ≡ 744 = omega arith in rw e at (c .before .loop .inv .2)
+returns c = let e : c .before .loop .p ≡ monthPlaces = omega arith in rw e at (c .before .loop .inv .2)
 
 pub standing-in-spec : {M : Type 1} → statement M
 standing-in-spec =

@@ -5,6 +5,7 @@ use mathlib.Core.Path.{_≡_, sym}
 use lib.ListN.{length, take}
 use lib.Seq.{length-take-le}
 use borrow.Author.Needs.{needs}
+use Rattle.question.proofs.LineLaws.{few-fields}
 use Rattle.question.proofs.put_few.Statement.{statement}
 use Rattle.question.proofs.put_few.Tie as tie
 
@@ -18,7 +19,11 @@ slice-aggregate-put-line : tie.Need-slice-aggregate-put-line
 slice-aggregate-put-line c = sym (length-take-le _ _ (few (c .before)))
 
 put-line-requires : tie.Need-put-line-requires
-put-line-requires c κs = let v = c .before .before in let f = v .before .before .args .few in let l = length-take-le (f .count) (f .values) (few v) in (search needs, omega (arith, l, v .before .before .pre .0))
+put-line-requires c κs =
+    let a = c .before .before .before .before in
+    let f = a .args .few in
+    let l = length-take-le (f .count) (f .values) (few (c .before .before)) in
+    (search needs, few-fields (take (f .count) (f .values)) (omega (arith, a .pre .0)))
 
 same-length : tie.Need-same-length
 same-length c = search needs

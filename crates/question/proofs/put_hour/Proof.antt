@@ -1,16 +1,29 @@
 -- `question::put_hour` meets its contract: the fields come back out of their box. Assumes nothing.
-use Rattle.hours.specs.Hours.{hourReply}
-use Rattle.question.proofs.Boxes.{Held, held, hour-few}
+use Rattle.hours.proofs.HourLaws.{hour-few}
+use Rattle.question.specs.Questions.{hourPrints}
+use Rattle.question.proofs.Boxes.{Held, held}
 use borrow.Author.Needs.{needs}
 use Rattle.question.proofs.put_hour.Statement.{statement}
 use Rattle.question.proofs.put_hour.Tie as tie
+
+head-of-requires : tie.Need-head-of-requires
+head-of-requires c κs = search needs
+
+part-requires : tie.Need-part-requires
+part-requires c κs = search needs
+
+rest-requires : tie.Need-rest-requires
+rest-requires c κs = search needs
 
 answer-requires : tie.Need-answer-requires
 answer-requires c κs = search needs
 
 -- what the box holds
-here : (c : tie.After-answer) → let a = c .before .before .args in Held (c .answer .result) (hourReply (a .hour) (a .numbers .now) (a .places))
-here c = let a = c .before .before .args in held _ _ (hour-few (a .hour) _ _) (c .answer .ensures)
+here : (c : tie.After-answer) → let a = c .before .before .before .before .before .before .args in Held (c .answer .result) (hourPrints (a .hour) (a .numbers .now) (a .places))
+here c =
+    let r = c .before in
+    let p = r .before in
+    held _ _ (hour-few _ _ _ _) (rw (p .before .head-of .ensures, p .part .ensures, r .rest .ensures) at (c .answer .ensures))
 
 put-few-requires : tie.Need-put-few-requires
 put-few-requires c κs = (here (c .before) .most, search needs)
@@ -22,4 +35,13 @@ returns : tie.Need-returns
 returns c = rw (here (c .before .before .before .before) .back) at (c .before .before .put-few .ensures)
 
 pub put-hour-spec : {M : Type 1} → statement M
-put-hour-spec = tie.close (tie.spec answer-requires put-few-requires same-length returns)
+put-hour-spec =
+    tie.close
+    (tie.spec
+    head-of-requires
+    part-requires
+    rest-requires
+    answer-requires
+    put-few-requires
+    same-length
+    returns)

@@ -3,8 +3,6 @@ use borrow.Author.Needs.{needs}
 use Prim.Native.Nat.{_≤_}
 use native.Mathlib.Omega.{arith}
 use mathlib.Core.Path.{_≡_, refl, sym, ap, _∙_}
-use mathlib.Core.List.{List}
-use lib.IntN.{ℤ}
 use lib.ListN.{length, take}
 use lib.Seq.{length-take-le}
 use mir.Syntax.{w64}
@@ -12,6 +10,7 @@ use Rattle.whole.proofs.Signed.{back}
 use Rattle.text.specs.Text.{put}
 use Rattle.words.specs.Replies.{Reply, reply}
 use Rattle.question.specs.Lines.{lineText}
+use Rattle.question.proofs.LineLaws.{few-fields}
 use Rattle.question.proofs.Laws.{ramp-left, shown-most, shown-run}
 use Rattle.question.proofs.put_ramp.Statement.{statement}
 use Rattle.question.proofs.put_ramp.Tie as tie
@@ -47,7 +46,10 @@ slice-aggregate-put-line : tie.Need-slice-aggregate-put-line
 slice-aggregate-put-line c = let h = c .before in sym (length-take-le _ _ (front h))
 
 put-line-requires : tie.Need-put-line-requires
-put-line-requires c κs = let h = c .before .before in let e : length (take (h .shown .result) (h .before .before .ramp .last .1 .1 .0)) ≡ h .shown .result = length-take-le _ _ (front h) in omega (arith, few h)
+put-line-requires c κs =
+    let h = c .before .before in
+    let l : length (take (h .shown .result) (h .before .before .ramp .last .1 .1 .0)) ≡ h .shown .result = length-take-le _ _ (front h) in
+    (search needs, few-fields (take (h .shown .result) (h .before .before .ramp .last .1 .1 .0)) (omega (arith, few h)))
 
 same-length : tie.Need-same-length
 same-length c = search needs

@@ -1,8 +1,9 @@
 -- `question::put_rule` meets its contract: the fields come back out of their box. Assumes nothing.
 use lib.ListN.{drop}
-use Rattle.words.specs.Shapes.{headOf}
+use Rattle.question.specs.Parts.{headOf}
 use Rattle.rules.specs.Rules.{ruleReply}
-use Rattle.question.proofs.Boxes.{Held, held, rule-few}
+use Rattle.question.proofs.Boxes.{Held, held}
+use Rattle.rules.proofs.Laws.{rule-few}
 use borrow.Author.Needs.{needs}
 use Rattle.question.proofs.put_rule.Statement.{statement}
 use Rattle.question.proofs.put_rule.Tie as tie

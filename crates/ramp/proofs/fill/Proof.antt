@@ -12,8 +12,9 @@ use borrow.Author.Needs.{needs}
 use Rattle.whole.specs.Runs.{filled}
 use Rattle.whole.proofs.Runs.{filled-more, filled-again, filled-all}
 use Rattle.whole.proofs.Signed.{back}
+use Rattle.units.specs.Limits.{secondsOfQuarter}
 use Rattle.ramp.specs.Ramp.{rampAt}
-use Rattle.ramp.proofs.Laws.{quarter-is}
+use Rattle.ramp.proofs.Laws.{ramp-is}
 use Rattle.ramp.proofs.fill.Statement.{statement}
 use Rattle.ramp.proofs.fill.Tie as tie
 
@@ -23,17 +24,17 @@ rule last target = rampAt (toZ w64 last) (toZ w64 target)
 
 abbrev Inv-loop : tie.InvT-loop
 Inv-loop last target seconds₀ moving i₀ seconds i =
-    (i ≤ moving) × (length seconds ≡ 900) × (seconds ≡ filled (rule last target) 1 seconds₀ i)
+    (i ≤ moving) × (length seconds ≡ secondsOfQuarter) × (seconds ≡ filled (rule last target) 1 seconds₀ i)
 
 abbrev μ-loop : tie.MeasureT-loop
 μ-loop last target seconds₀ moving i₀ seconds i = moving - i
 
 abbrev Inv-loop2 : tie.InvT-loop2
 Inv-loop2 last target seconds₀ moving i₀ seconds i =
-    (i ≤ 900) × (moving ≤ i) × (length seconds ≡ 900) × (seconds ≡ filled (rule last target) 1 seconds₀ i)
+    (i ≤ secondsOfQuarter) × (moving ≤ i) × (length seconds ≡ secondsOfQuarter) × (seconds ≡ filled (rule last target) 1 seconds₀ i)
 
 abbrev μ-loop2 : tie.MeasureT-loop2
-μ-loop2 last target seconds₀ moving i₀ seconds i = 900 - i
+μ-loop2 last target seconds₀ moving i₀ seconds i = secondsOfQuarter - i
 
 moving-requires : tie.Need-moving-requires Inv-loop μ-loop Inv-loop2 μ-loop2
 moving-requires c κs = search needs
@@ -119,10 +120,10 @@ returns c =
     let l = c .before .loop2 in
     let m = c .before .before .before in
     let s = m .before .before in
-    let n : l .i ≡ 900 = omega arith in
+    let n : l .i ≡ secondsOfQuarter = omega arith in
     let f = rule (ofZ w64 (s .args .last)) (ofZ w64 (s .args .target)) in
     let whole = l .inv .3 ∙ filled-all f 1 (m .loop .seconds) (l .i) (n ∙ sym (m .loop .inv .1)) in
-    (rw (toZ-ofZ (s .fits .last), toZ-ofZ (s .fits .target)) at whole) ∙ quarter-is (s .args .last) (s .args .target) (l .i) n
+    (rw (toZ-ofZ (s .fits .last), toZ-ofZ (s .fits .target)) at whole) ∙ ramp-is (s .args .last) (s .args .target) (l .i) n
 
 pub fill-spec : {M : Type 1} → statement M
 fill-spec =

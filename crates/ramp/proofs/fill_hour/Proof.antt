@@ -15,6 +15,7 @@ use Rattle.whole.specs.Runs.{filled}
 use Rattle.whole.specs.Whole.{minus, Within}
 use Rattle.whole.proofs.Runs.{length-filled, filled-part, filled-all}
 use Rattle.whole.proofs.Sums.{in-within, all-inside}
+use Rattle.units.specs.Limits.{mostTransfer, secondsOfQuarter, secondsOfHour}
 use Rattle.ramp.specs.Ramp.{transferAt}
 use Rattle.ramp.proofs.Laws.{plan-fit, plan-quarter, plan-is}
 use Rattle.ramp.proofs.fill_hour.Statement.{statement}
@@ -22,7 +23,7 @@ use Rattle.ramp.proofs.fill_hour.Tie as tie
 
 abbrev Inv-loop : tie.InvT-loop
 Inv-loop targets seconds₀ q₀ seconds q =
-    (q ≤ 4) × (length seconds ≡ 3600) × (seconds ≡ filled (transferAt targets) 0 seconds₀ (q * 900))
+    (q ≤ 4) × (length seconds ≡ secondsOfHour) × (seconds ≡ filled (transferAt targets) 0 seconds₀ (q * secondsOfQuarter))
 
 abbrev μ-loop : tie.MeasureT-loop
 μ-loop targets seconds₀ q₀ seconds q = 4 - q
@@ -70,7 +71,7 @@ target-fits : (c : tie.After-target Inv-loop μ-loop) → SFits w64 (getD (c .be
 target-fits c = search needs
 
 -- a quarter's places
-sub-add : (a : ℕ) → a + 900 - a ≡ 900
+sub-add : (a : ℕ) → a + secondsOfQuarter - a ≡ secondsOfQuarter
 sub-add a = omega arith
 
 fill-requires : tie.Need-fill-requires Inv-loop μ-loop
@@ -81,10 +82,10 @@ fill-requires c κs =
     let fit = plan-fit _ _ (s .pre) in
     let five = fit .five in
     let room = l .inv .1 in
-    let inside : (q : ℕ) → q < 5 → Within 100000 (getD (s .args .targets .now) q (pos 0)) =
-    λ q h. in-within (all-inside (minus 100000) (pos 100000) (s .args .targets .now) (fit .inside) q (omega arith)) in
+    let inside : (q : ℕ) → q < 5 → Within mostTransfer (getD (s .args .targets .now) q (pos 0)) =
+    λ q h. in-within (all-inside (minus mostTransfer) (pos mostTransfer) (s .args .targets .now) (fit .inside) q (omega arith)) in
     rw (toZ-ofZ (last-fits (t .before)), toZ-ofZ (target-fits t))
-    (mid-len (l .q * 900) (l .q * 900 + 900) (l .seconds) (omega arith) ∙ sub-add (l .q * 900), (inside (l .q) (omega arith), inside (l .q + 1) (omega arith)))
+    (mid-len (l .q * secondsOfQuarter) (l .q * secondsOfQuarter + secondsOfQuarter) (l .seconds) (omega arith) ∙ sub-add (l .q * secondsOfQuarter), (inside (l .q) (omega arith), inside (l .q + 1) (omega arith)))
 
 loop-less : tie.Need-loop-less Inv-loop μ-loop
 loop-less c = search needs
@@ -96,14 +97,14 @@ loop-again c =
     let s = t .before .before .before .before in
     let fit = plan-fit _ _ (s .pre) in
     let long = fit .long in
-    let a = l .q * 900 in
+    let a = l .q * secondsOfQuarter in
     let run = s .args .seconds .now in
     let f = transferAt (s .args .targets .now) in
-    let k = a + 900 - a in
+    let k = a + secondsOfQuarter - a in
     let new = (rw (toZ-ofZ (last-fits (t .before)), toZ-ofZ (target-fits t)) at (c .before .fill .ensures)) ∙ plan-quarter (s .args .targets .now) (l .q) k (sub-add a) in
-    let next : a + k ≡ (l .q + 1) * 900 = omega arith in
+    let next : a + k ≡ (l .q + 1) * secondsOfQuarter = omega arith in
     let put = (rw (zero-add a) at (filled-part f 0 a k run (omega arith))) ∙ ap (filled f 0 run) next in
-    let as-long = ap (λ (r : List ℤ). length r) put ∙ length-filled f 0 run ((l .q + 1) * 900) (omega arith) ∙ long in
+    let as-long = ap (λ (r : List ℤ). length r) put ∙ length-filled f 0 run ((l .q + 1) * secondsOfQuarter) (omega arith) ∙ long in
     (omega arith, rw (new, l .inv .2) as-long, rw (new, l .inv .2) put)
 
 same-length : tie.Need-same-length Inv-loop μ-loop
@@ -113,10 +114,10 @@ returns : tie.Need-returns Inv-loop μ-loop
 returns c =
     let l = c .before .loop in
     let s = c .before .before in
-    let n : l .q * 900 ≡ 3600 = omega arith in
+    let n : l .q * secondsOfQuarter ≡ secondsOfHour = omega arith in
     let long = plan-fit _ _ (s .pre) .long in
-    l .inv .2 ∙ filled-all (transferAt (s .args .targets .now)) 0 (s .args .seconds .now) (l .q * 900) (n ∙ sym long)
-    ∙ plan-is (s .args .targets .now) (l .q * 900) n
+    l .inv .2 ∙ filled-all (transferAt (s .args .targets .now)) 0 (s .args .seconds .now) (l .q * secondsOfQuarter) (n ∙ sym long)
+    ∙ plan-is (s .args .targets .now) (l .q * secondsOfQuarter) n
 
 pub fill-hour-spec : {M : Type 1} → statement M
 fill-hour-spec =

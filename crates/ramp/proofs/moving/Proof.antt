@@ -18,7 +18,7 @@ returns c =
 
 returns-2 : tie.Need-returns-2
 unfolding rampAt
-returns-2 c = (omega arith, λ n h. rw (lt-leb _ _ h))
+returns-2 c = (omega arith, λ n h. rw (lt-leb n 300 h))
 
 pub moving-spec : {M : Type 1} → statement M
 moving-spec = tie.close (tie.spec returns returns-2)

@@ -10,6 +10,7 @@ use borrow.Author.Tests.{le-leb}
 use Rattle.whole.specs.Whole.{Within, away}
 use Rattle.whole.proofs.Signed.{signed, back, difference, product, within-fits, within-size}
 use Rattle.whole.proofs.Rounding.{away-within}
+use Rattle.units.specs.Limits.{mostTransfer}
 use Rattle.ramp.specs.Ramp.{rampAt}
 use Rattle.ramp.proofs.ramping.Statement.{statement}
 use Rattle.ramp.proofs.ramping.Tie as tie
@@ -18,9 +19,9 @@ use Rattle.ramp.proofs.ramping.Tie as tie
 abbrev part : tie.Start → ℤ
 part s = (s .args .target -ℤ s .args .last) *ℤ pos (s .args .n)
 
-part-within : (s : tie.Start) → Within (200000 * 300) (part s)
+part-within : (s : tie.Start) → Within (2 * mostTransfer * 300) (part s)
 part-within s =
-    let d : Within 200000 (s .args .target -ℤ s .args .last) = omega (arith, difference (s .args .target) (s .args .last)) in
+    let d : Within (2 * mostTransfer) (s .args .target -ℤ s .args .last) = omega (arith, difference (s .args .target) (s .args .last)) in
     let n : Within 300 (pos (s .args .n)) = omega arith in
     product d n
 
@@ -46,7 +47,7 @@ step c =
 add-result : tie.Need-add-result
 add-result c =
     let s = c .before in
-    let w = away-within (part s) 300 200000 (omega arith) (within-size (part-within s)) in
+    let w = away-within (part s) 300 (2 * mostTransfer) (omega arith) (within-size (part-within s)) in
     rw (back w64 (c .away .ok) (step c), toZ-ofZ (s .fits .last)) (omega signed)
 
 returns : tie.Need-returns

@@ -8,12 +8,12 @@ use Rattle.rules.proofs.bands.Tie as tie
 looked-up-requires : tie.Need-looked-up-requires
 looked-up-requires c κs = search needs
 
-none-requires : tie.Need-none-requires
-none-requires c κs = search needs
+few-requires : tie.Need-few-requires
+few-requires c κs = search needs
 
 returns : tie.Need-returns
 unfolding bandsReply
-returns c = rw (c .none .ensures, c .before .looked-up .ensures, by-bands)
+returns c = rw (c .few .ensures, c .before .looked-up .ensures, by-bands)
 
 pub bands-spec : {M : Type 1} → statement M
-bands-spec = tie.close (tie.spec looked-up-requires none-requires returns)
+bands-spec = tie.close (tie.spec looked-up-requires few-requires returns)

@@ -15,8 +15,8 @@ array-copy-out-t6 c = search needs
 curve-requires : tie.Need-curve-requires
 curve-requires c κs = search needs
 
-two-requires : tie.Need-two-requires
-two-requires c κs = search needs
+few-requires : tie.Need-few-requires
+few-requires c κs = search needs
 
 returns : tie.Need-returns
 unfolding curveReply
@@ -26,7 +26,7 @@ returns c =
     let lower : SFits w64 (r .result .lower) = search needs in
     let head = c .before .before .before .before .before .args .t1 in
     let n0 : SFits w64 (getD head 0 (pos 0)) = search needs in
-    rw (c .two .ensures, toZ-ofZ upper, toZ-ofZ lower, r .ensures, toZ-ofZ n0)
+    rw (c .few .ensures, toZ-ofZ upper, toZ-ofZ lower, r .ensures, toZ-ofZ n0)
 
 pub curve-spec : {M : Type 1} → statement M
-curve-spec = tie.close (tie.spec array-copy-out-t6 curve-requires two-requires returns)
+curve-spec = tie.close (tie.spec array-copy-out-t6 curve-requires few-requires returns)

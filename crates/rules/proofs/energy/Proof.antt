@@ -27,8 +27,8 @@ part-energy-fee-end c = search needs
 energy-fee-requires : tie.Need-energy-fee-requires
 energy-fee-requires c κs = search needs
 
-one-requires : tie.Need-one-requires
-one-requires c κs = search needs
+few-requires : tie.Need-few-requires
+few-requires c κs = search needs
 
 returns : tie.Need-returns
 unfolding energyReply
@@ -38,7 +38,7 @@ returns c =
     let head = c .before .before .before .before .before .before .before .before .args .t1 in
     let n0 : SFits w64 (getD head 0 (pos 0)) = search needs in
     let n1 : SFits w64 (getD head 1 (pos 0)) = search needs in
-    rw (c .one .ensures, toZ-ofZ dollars, r .ensures, toZ-ofZ n0, toZ-ofZ n1)
+    rw (c .few .ensures, toZ-ofZ dollars, r .ensures, toZ-ofZ n0, toZ-ofZ n1)
 
 pub energy-spec : {M : Type 1} → statement M
 energy-spec =
@@ -50,5 +50,5 @@ energy-spec =
     part-energy-fee-start
     part-energy-fee-end
     energy-fee-requires
-    one-requires
+    few-requires
     returns)

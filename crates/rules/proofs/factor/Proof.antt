@@ -18,8 +18,8 @@ byte-of-requires c κs = search needs
 looked-up-requires : tie.Need-looked-up-requires
 looked-up-requires c κs = search needs
 
-one-requires : tie.Need-one-requires
-one-requires c κs = search needs
+few-requires : tie.Need-few-requires
+few-requires c κs = search needs
 
 returns : tie.Need-returns
 unfolding factorReply
@@ -27,9 +27,9 @@ returns c =
     let r = c .before .before .looked-up in
     let factor : SFits w64 (r .result .factor) = search needs in
     let n0 : SFits w64 (getD (c .before .before .before .before .before .args .t1) 0 (pos 0)) = search needs in
-    rw (c .one .ensures, toZ-ofZ factor, r .ensures, c .before .before .before .byte-of .ensures, toZ-ofZ n0)
+    rw (c .few .ensures, toZ-ofZ factor, r .ensures, c .before .before .before .byte-of .ensures, toZ-ofZ n0)
 
 pub factor-spec : {M : Type 1} → statement M
 factor-spec =
     tie.close
-    (tie.spec array-copy-out-byte-of byte-of-requires looked-up-requires one-requires returns)
+    (tie.spec array-copy-out-byte-of byte-of-requires looked-up-requires few-requires returns)

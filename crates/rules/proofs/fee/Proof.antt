@@ -18,8 +18,8 @@ array-copy-out-t10 c = search needs
 fee-requires : tie.Need-fee-requires
 fee-requires c κs = search needs
 
-one-requires : tie.Need-one-requires
-one-requires c κs = search needs
+few-requires : tie.Need-few-requires
+few-requires c κs = search needs
 
 returns : tie.Need-returns
 unfolding feeReply
@@ -29,8 +29,8 @@ returns c =
     let head = c .before .before .before .before .before .before .args .t1 in
     let n0 : SFits w64 (getD head 0 (pos 0)) = search needs in
     let n1 : SFits w64 (getD head 1 (pos 0)) = search needs in
-    rw (c .one .ensures, toZ-ofZ dollars, r .ensures, toZ-ofZ n0, toZ-ofZ n1)
+    rw (c .few .ensures, toZ-ofZ dollars, r .ensures, toZ-ofZ n0, toZ-ofZ n1)
 
 pub fee-spec : {M : Type 1} → statement M
 fee-spec =
-    tie.close (tie.spec array-copy-out-fee array-copy-out-t10 fee-requires one-requires returns)
+    tie.close (tie.spec array-copy-out-fee array-copy-out-t10 fee-requires few-requires returns)

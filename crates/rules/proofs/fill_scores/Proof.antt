@@ -8,8 +8,8 @@ use mir.Syntax.{w64}
 use Rattle.whole.specs.Runs.{filled, listed}
 use Rattle.whole.proofs.Runs.{filled-next, filled-all}
 use Rattle.whole.proofs.Signed.{back}
-use Rattle.words.specs.Numbers.{number, byteOf}
-use Rattle.rules.specs.Numbers.{scoresIn}
+use Rattle.numbers.specs.Numbers.{number, byteOf}
+use Rattle.rules.specs.Rules.{scoresIn}
 use Rattle.rules.proofs.fill_scores.Statement.{statement}
 use Rattle.rules.proofs.fill_scores.Tie as tie
 

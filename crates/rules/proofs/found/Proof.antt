@@ -4,7 +4,7 @@ use mathlib.Core.Path.{sym, ap₂, _∙_}
 use mathlib.Core.List.{List}
 use lib.IntN.{ℤ}
 use Rattle.bands.specs.Bands.{factorAnswer}
-use Rattle.words.proofs.Columns.{front}
+use Rattle.numbers.proofs.Columns.{front}
 use Rattle.rules.proofs.found.Statement.{statement}
 use Rattle.rules.proofs.found.Tie as tie
 

@@ -15,8 +15,8 @@ array-copy-out-t7 c = search needs
 to-kilowatts-requires : tie.Need-to-kilowatts-requires
 to-kilowatts-requires c κs = search needs
 
-one-requires : tie.Need-one-requires
-one-requires c κs = search needs
+few-requires : tie.Need-few-requires
+few-requires c κs = search needs
 
 returns : tie.Need-returns
 unfolding kilowattsReply
@@ -25,7 +25,7 @@ returns c =
     let power : SFits w64 (r .result .power .0) = search needs in
     let head = c .before .before .before .before .before .args .t1 in
     let n0 : SFits w64 (getD head 0 (pos 0)) = search needs in
-    rw (c .one .ensures, toZ-ofZ power, r .ensures, toZ-ofZ n0)
+    rw (c .few .ensures, toZ-ofZ power, r .ensures, toZ-ofZ n0)
 
 pub kilowatts-spec : {M : Type 1} → statement M
-kilowatts-spec = tie.close (tie.spec array-copy-out-t7 to-kilowatts-requires one-requires returns)
+kilowatts-spec = tie.close (tie.spec array-copy-out-t7 to-kilowatts-requires few-requires returns)

@@ -24,8 +24,8 @@ array-copy-out-loss-fee-4 c = search needs
 loss-fee-requires : tie.Need-loss-fee-requires
 loss-fee-requires c κs = search needs
 
-three-requires : tie.Need-three-requires
-three-requires c κs = search needs
+few-requires : tie.Need-few-requires
+few-requires c κs = search needs
 
 returns : tie.Need-returns
 unfolding lossReply
@@ -39,7 +39,7 @@ returns c =
     let n1 : SFits w64 (getD head 1 (pos 0)) = search needs in
     let n2 : SFits w64 (getD head 2 (pos 0)) = search needs in
     let n3 : SFits w64 (getD head 3 (pos 0)) = search needs in
-    rw (c .three .ensures, toZ-ofZ basic, toZ-ofZ excess, toZ-ofZ total, r .ensures, toZ-ofZ n0, toZ-ofZ n1, toZ-ofZ n2, toZ-ofZ n3)
+    rw (c .few .ensures, toZ-ofZ basic, toZ-ofZ excess, toZ-ofZ total, r .ensures, toZ-ofZ n0, toZ-ofZ n1, toZ-ofZ n2, toZ-ofZ n3)
 
 pub loss-spec : {M : Type 1} → statement M
 loss-spec =
@@ -50,5 +50,5 @@ loss-spec =
     array-copy-out-loss-fee-3
     array-copy-out-loss-fee-4
     loss-fee-requires
-    three-requires
+    few-requires
     returns)

@@ -21,8 +21,8 @@ array-copy-out-quality-part c = search needs
 quality-part-requires : tie.Need-quality-part-requires
 quality-part-requires c κs = search needs
 
-one-requires : tie.Need-one-requires
-one-requires c κs = search needs
+few-requires : tie.Need-few-requires
+few-requires c κs = search needs
 
 returns : tie.Need-returns
 unfolding qualityReply
@@ -33,7 +33,7 @@ returns c =
     let n0 : SFits w64 (getD head 0 (pos 0)) = search needs in
     let n1 : SFits w64 (getD head 1 (pos 0)) = search needs in
     let n2 : SFits w64 (getD head 2 (pos 0)) = search needs in
-    rw (c .one .ensures, toZ-ofZ dollars, r .ensures, toZ-ofZ n0, toZ-ofZ n1, toZ-ofZ n2)
+    rw (c .few .ensures, toZ-ofZ dollars, r .ensures, toZ-ofZ n0, toZ-ofZ n1, toZ-ofZ n2)
 
 pub quality-spec : {M : Type 1} → statement M
 quality-spec =
@@ -43,5 +43,5 @@ quality-spec =
     array-copy-out-t11
     array-copy-out-quality-part
     quality-part-requires
-    one-requires
+    few-requires
     returns)

@@ -10,12 +10,13 @@ use borrow.Author.Needs.{needs}
 use Rattle.whole.specs.Whole.{Within, Between}
 use Rattle.whole.proofs.Rounding.{nearest-within}
 use Rattle.whole.proofs.Signed.{back, size, times, difference, within-size}
+use Rattle.units.specs.Limits.{mostCapacity, mostPower, mostTransfer}
 use Rattle.score.specs.Score.{percentOutput}
 use Rattle.score.proofs.by_bounds.Statement.{statement}
 use Rattle.score.proofs.by_bounds.Tie as tie
 
 -- percent output is at most 300,000 kW over 1 kW
-output-within : (power transfer capacity : ℤ) → Within 200000 power → Within 100000 transfer → Between (pos 1) (pos 100000) capacity
+output-within : (power transfer capacity : ℤ) → Within mostPower power → Within mostTransfer transfer → Between (pos 1) (pos mostCapacity) capacity
     → Within 30000000 (percentOutput power transfer capacity)
 unfolding percentOutput
 output-within power transfer capacity p t c =

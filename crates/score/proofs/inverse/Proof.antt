@@ -1,6 +1,6 @@
 -- `score::inverse` meets its contract: a capacity is at least 1. Assumes nothing.
-use Prim.Native.Nat.{_*_, _≤_, _/_}
-use mathlib.Core.Path.{_≡_, ap, _∙_}
+use Prim.Native.Nat.{_*_}
+use mathlib.Core.Path.{_≡_}
 use native.Mathlib.Omega.{arith}
 use native.Mathlib.Nat.{div-le-self}
 use lib.IntN.{natAbs}

@@ -1,7 +1,6 @@
 -- `score::nearest_percent` meets its contract: by the capacity's size, and by the sign. Assumes nothing.
 use Prim.Native.Nat.{_*_}
-use mathlib.Core.Path.{_≡_, _∙_}
-use native.Mathlib.Omega.{arith}
+use mathlib.Core.Path.{_≡_}
 use lib.IntN.{pos, natAbs}
 use mir.Syntax.{w64}
 use mir.Facts.{toZ-ofZ}

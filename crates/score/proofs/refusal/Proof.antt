@@ -25,48 +25,40 @@ within-requires c κs = search needs
 within-requires-2 : tie.Need-within-requires-2
 within-requires-2 c κs = search needs
 
-within-requires-3 : tie.Need-within-requires-3
-within-requires-3 c κs = search needs
-
 unless-requires : tie.Need-unless-requires
 unless-requires c κs = search needs
 
-within-requires-4 : tie.Need-within-requires-4
-within-requires-4 c κs = search needs
+within-requires-3 : tie.Need-within-requires-3
+within-requires-3 c κs = search needs
 
 unless-requires-2 : tie.Need-unless-requires-2
 unless-requires-2 c κs = search needs
 
+within-requires-4 : tie.Need-within-requires-4
+within-requires-4 c κs = search needs
+
 unless-requires-3 : tie.Need-unless-requires-3
 unless-requires-3 c κs = search needs
-
-or-else-requires : tie.Need-or-else-requires
-or-else-requires c κs = search needs
-
-or-else-requires-2 : tie.Need-or-else-requires-2
-or-else-requires-2 c κs = search needs
 
 returns : tie.Need-returns
 unfolding secondRefusal
 returns c =
-    let u = c .before .before in
-    let w = u .before .before in
+    let w = c .before in
     let v = w .before .before in
-    let s = v .before .before .before in
+    let r = v .before in
+    let s = r .before .before .before in
     simp (
-      c .before .or-else .ensures,
-      w .before .unless .ensures,
-      v .within3 .ensures,
-      u .before .unless2 .ensures,
       w .within4 .ensures,
-      u .unless3 .ensures,
-      v .before .before .within .ensures,
-      v .before .within2 .ensures,
+      w .before .unless2 .ensures,
+      v .within3 .ensures,
+      r .unless .ensures,
+      r .before .before .within .ensures,
+      r .before .within2 .ensures,
       toZ-ofZ (power-fits s),
       toZ-ofZ (transfer-fits s),
       toZ-ofZ (capacity-fits s),
       toZ-ofZ (frequency-fits s),
-    ) at (c .or-else2 .ensures)
+    ) at (c .unless3 .ensures)
 
 pub refusal-spec : {M : Type 1} → statement M
 refusal-spec =
@@ -74,11 +66,9 @@ refusal-spec =
     (tie.spec
     within-requires
     within-requires-2
-    within-requires-3
     unless-requires
-    within-requires-4
+    within-requires-3
     unless-requires-2
+    within-requires-4
     unless-requires-3
-    or-else-requires
-    or-else-requires-2
     returns)

@@ -1,5 +1,5 @@
 -- `score::run_scores` meets its contract, by those of `run_refusal` and `fill`. Assumes nothing.
-use mathlib.Core.Path.{_≡_, sym, _∙_}
+use mathlib.Core.Path.{sym, _∙_}
 use borrow.Author.Needs.{needs}
 use Rattle.whole.proofs.Choice.{kept-new, kept-old}
 use Rattle.score.specs.Run.{runLeft}

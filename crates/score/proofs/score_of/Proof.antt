@@ -1,6 +1,6 @@
 -- `score::score_of` meets its contract: where the lower bound is not above the upper one, the nearer bound is the one that the output lies beyond.
 -- Assumes nothing.
-use mathlib.Core.Path.{_≡_, sym}
+use mathlib.Core.Path.{_≡_}
 use mathlib.Core.Bool.{true, false}
 use lib.IntN.{_-ℤ_}
 use lib.Signed.{ltZ}

@@ -1,5 +1,5 @@
 -- `score::seconds_refusal` meets its contract: where a second does not fit, it is a transfer or else a reading. Assumes nothing.
-use mathlib.Core.Path.{_≡_, sym, _∙_}
+use mathlib.Core.Path.{sym, _∙_}
 use borrow.Author.Needs.{needs}
 use borrow.Author.Tests.{not-true, not-false}
 use Rattle.score.proofs.Run.{fit-none, fit-which}

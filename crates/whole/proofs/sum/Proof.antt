@@ -1,21 +1,19 @@
 -- `whole::sum` meets its contract. The loop's invariant: every number passed lies in the range, and the sum is that of the numbers passed,
 -- so that it fits. Assumes nothing.
 use Prim.Native.Nat.{ℕ, _+_, _*_, _-_, _≤_, _<_}
-use mathlib.Core.Path.{_≡_, sym, ap, _∙_}
+use mathlib.Core.Path.{_≡_, sym, _∙_}
 use mathlib.Core.Bool.{Bool, true, false, _&&_, and-false}
 use mathlib.Core.List.{List}
 use native.Mathlib.Omega.{arith}
-use lib.Dec.{leb}
 use lib.IntN.{ℤ, pos, _+ℤ_}
 use lib.ListN.{length, getD}
 use mir.Syntax.{w64}
-use mir.Val.{SFits, toZ, ofZ}
+use mir.Val.{SFits, toZ}
 use mir.Facts.{toZ-ofZ}
 use borrow.Author.Needs.{needs}
 use borrow.Author.Tests.{not-true, not-false, le-leb, lt-leb}
 use Rattle.whole.specs.Folds.{allTo, sumTo}
 use Rattle.whole.specs.Whole.{minus, Within, inRange, allInRange, summed}
-use Rattle.whole.specs.declared.Summed.{Summed}
 use Rattle.whole.proofs.Choice.{both}
 use Rattle.whole.proofs.Folds.{fold-none, fold-step, all-at, all-fails}
 use Rattle.whole.proofs.Signed.{signed}

@@ -7,10 +7,10 @@ use Rattle.bench_calls.proofs.calls.calls_in.Statement.{statement}
 use Rattle.bench_calls.proofs.calls.calls_in.Tie as tie
 
 abbrev Inv-loop : tie.InvT-loop
-Inv-loop head filled₀ amounts₀ ordered calls x₀ sum₀ i₀ filled amounts x sum i = (i ≤ calls) × (length filled ≡ length filled₀) × (length amounts ≡ length amounts₀)
+Inv-loop head marks₀ amounts₀ ordered calls x₀ sum₀ i₀ marks amounts x sum i = (i ≤ calls) × (length marks ≡ length marks₀) × (length amounts ≡ length amounts₀)
 
 abbrev μ-loop : tie.MeasureT-loop
-μ-loop head filled₀ amounts₀ ordered calls x₀ sum₀ i₀ filled amounts x sum i = calls - i
+μ-loop head marks₀ amounts₀ ordered calls x₀ sum₀ i₀ marks amounts x sum i = calls - i
 
 loop-holds : tie.Need-loop-holds Inv-loop μ-loop
 loop-holds c = search needs

@@ -43,21 +43,21 @@ use denote.Triple.Walked.{says, needs, Stays, stay-dropped, walkOf, goes-dropped
 use denote.Triple.Clauses.{ensured, lasts}
 use denote.Exit.{yes}
 use borrow.Table.Elements.{length-take-le}
-use Rattle.bands.specs.Records.{recordsRefusal, recordsAnswer}
-use Rattle.bands.specs.declared.Band.{Band}
+use Rattle.records.specs.Records.{recordsRefusal, recordsAnswer}
+use Rattle.records.specs.declared.Band.{Band}
 use Rattle.bands.specs.declared.Factored.{Factored}
-use Rattle.bands.proofs.Band as B
-use Rattle.bands.proofs.Band.Laws as B′
+use Rattle.records.proofs.Band as B
+use Rattle.records.proofs.Band.Laws as B′
 use Rattle.bands.proofs.Factored as Q
 use Rattle.bands.proofs.Factored.Laws as Q′
-use Rattle.bands.proofs.check_bands as check
-use Rattle.bands.proofs.check_bands.Symbol as check-def
-use Rattle.bands.proofs.check_bands.Symbol.{name as #bands·check-bands}
-use Rattle.bands.proofs.check_bands.Met as check-thm
-use Rattle.bands.proofs.factor_of as factor
-use Rattle.bands.proofs.factor_of.Symbol as factor-def
-use Rattle.bands.proofs.factor_of.Symbol.{name as #bands·factor-of}
-use Rattle.bands.proofs.factor_of.Met as factor-thm
+use Rattle.records.proofs.check_bands as check
+use Rattle.records.proofs.check_bands.Symbol as check-def
+use Rattle.records.proofs.check_bands.Symbol.{name as #records·check-bands}
+use Rattle.records.proofs.check_bands.Met as check-thm
+use Rattle.records.proofs.factor_of as factor
+use Rattle.records.proofs.factor_of.Symbol as factor-def
+use Rattle.records.proofs.factor_of.Symbol.{name as #records·factor-of}
+use Rattle.records.proofs.factor_of.Met as factor-thm
 use Rattle.figures.specs.declared.records_cases.Told.{Told}
 use Rattle.figures.proofs.records_cases.Told as T
 use Rattle.figures.proofs.records_cases.Told.Laws as T′
@@ -141,7 +141,7 @@ module _ {M : Type 1} (𝓤 : URA M) (H : Heap 𝓤) (A : Atoms 𝓤) (W : Given
     found : (f : Factored) → ent 𝓤 (ensured 𝓤 H A factor.ended (factor.clauses 𝓤 H A mem run) (α ∷ [], tt) (lent, (rate, tt)) tt f) (fact 𝓤 (f ≡ recordsAnswer (take n list) rate))
     found f = exE 𝓤 _ (λ ws. snd∗ 𝓤 (sem 𝓤 H A (lasts factor.ended (α ∷ [], tt) (lent, (rate, tt)) ws)) (fact 𝓤 (f ≡ recordsAnswer (take n list) rate)))
 
-  module _ (C : Calls 𝓤 H) (Λ : Loops 𝓤 H) (fm : FmC 𝓤 H (W .laws) C) (known-check : Triple 𝓤 (C #bands·check-bands) (Check 𝓤 H A mem run)) (known-factor : Triple 𝓤 (C #bands·factor-of) (Factor 𝓤 H A mem run)) where
+  module _ (C : Calls 𝓤 H) (Λ : Loops 𝓤 H) (fm : FmC 𝓤 H (W .laws) C) (known-check : Triple 𝓤 (C #records·check-bands) (Check 𝓤 H A mem run)) (known-factor : Triple 𝓤 (C #records·factor-of) (Factor 𝓤 H A mem run)) where
     walk : Is (Array B.the-row 17) list (v ∷ []) → Is usize n (w ∷ []) → Is u8 rate (x ∷ []) → n ≤ 17 → ent 𝓤 (onEntry 𝓤 H A thin.signature tt tt (list, (n, (rate, tt))) at) (WpFn 𝓤 H C Λ code.function (v ∷ w ∷ x ∷ []) Post)
     walk is-list is-n is-rate fits =
         let long : length list ≡ 17 = is-list .1 .0 .1 in
@@ -178,7 +178,7 @@ module _ {M : Type 1} (𝓤 : URA M) (H : Heap 𝓤) (A : Atoms 𝓤) (W : Given
         move ! (6 ∷ 7 ∷ []) $ free1 ! $ move ! (4 ∷ 5 ∷ []) $ free1 ! $ move ! (2 ∷ 3 ∷ []) $ free1 ! $ free1 ! $ free0 ! $ drop ! $ drop ! $
         by ! (exits (record { check = k; found = f }) (pair u u′) (made k f u u′ is is′) (cc))))))))))))))))))))))
 
-module _ {M : Type 1} (𝓤 : URA M) (H : Heap 𝓤) (A : Atoms 𝓤) (W : Given 𝓤 H A) (mem : Memory → SProp 𝓤) (run : Routine → Fun 𝓤) (𝓣 : Tables 𝓤 H) (known-check : Triple 𝓤 (𝓣 .C #bands·check-bands) (Check 𝓤 H A mem run)) (known-factor : Triple 𝓤 (𝓣 .C #bands·factor-of) (Factor 𝓤 H A mem run)) where
+module _ {M : Type 1} (𝓤 : URA M) (H : Heap 𝓤) (A : Atoms 𝓤) (W : Given 𝓤 H A) (mem : Memory → SProp 𝓤) (run : Routine → Fun 𝓤) (𝓣 : Tables 𝓤 H) (known-check : Triple 𝓤 (𝓣 .C #records·check-bands) (Check 𝓤 H A mem run)) (known-factor : Triple 𝓤 (𝓣 .C #records·factor-of) (Factor 𝓤 H A mem run)) where
   thin-walks : Walks 𝓤 H A thin.ended stayed (WpFn 𝓤 H (𝓣 .C) (𝓣 .Λ) code.function) (thin.clauses 𝓤 H A mem run)
   thin-walks =
       walked 𝓤 H A thin.ended stayed (thin.clauses 𝓤 H A mem run) (WpFn 𝓤 H (𝓣 .C) (𝓣 .Λ) code.function)
@@ -196,5 +196,5 @@ asked-spec 𝓤 H 𝓜 𝓖 𝓡 =
     entered 𝓤 H (tripleOf 𝓤 H (𝓖 .A) thin.signature (thin.spec 𝓤 H (𝓖 .A) (𝓜 .mem) (𝓡 .run)))
     (tables 𝓤 H 𝓜 𝓡 code.env .C) (tables 𝓤 H 𝓜 𝓡 code.env .Λ) #figures·asked code.function (code.unfolded 𝓤 H 𝓜 𝓡)
     (thin-meets 𝓤 H (𝓖 .A) (givenOf 𝓤 H 𝓜 𝓖) (𝓜 .mem) (𝓡 .run) (tablesOf 𝓤 H 𝓜 (tables 𝓤 H 𝓜 𝓡 code.env))
-    (cited 𝓤 H (Check 𝓤 H (𝓖 .A) (𝓜 .mem) (𝓡 .run)) 𝓜 𝓡 code.env #bands·check-bands check-def.routine code.calls-bands·check-bands (check-thm.met 𝓤 H 𝓜 𝓖 𝓡))
-    (cited 𝓤 H (Factor 𝓤 H (𝓖 .A) (𝓜 .mem) (𝓡 .run)) 𝓜 𝓡 code.env #bands·factor-of factor-def.routine code.calls-bands·factor-of (factor-thm.met 𝓤 H 𝓜 𝓖 𝓡)))
+    (cited 𝓤 H (Check 𝓤 H (𝓖 .A) (𝓜 .mem) (𝓡 .run)) 𝓜 𝓡 code.env #records·check-bands check-def.routine code.calls-records·check-bands (check-thm.met 𝓤 H 𝓜 𝓖 𝓡))
+    (cited 𝓤 H (Factor 𝓤 H (𝓖 .A) (𝓜 .mem) (𝓡 .run)) 𝓜 𝓡 code.env #records·factor-of factor-def.routine code.calls-records·factor-of (factor-thm.met 𝓤 H 𝓜 𝓖 𝓡)))

@@ -5,7 +5,7 @@ use native.Mathlib.Omega.{arith}
 use mathlib.Core.Path.{_≡_, refl}
 use mathlib.Core.List.{_++_}
 use lib.ListN.{length, take, drop, length-set}
-use Rattle.frame.specs.Digits.{digitOf, sixteen, digitsOf}
+use Rattle.frame.specs.Digits.{hexDigitOf, sixteen, digitsOf}
 use Rattle.frame.proofs.Digits.{encode-next, encode-done}
 use Rattle.frame.proofs.digit.encode.Statement.{statement}
 use Rattle.frame.proofs.digit.encode.Tie as tie
@@ -24,7 +24,7 @@ shared-slice-read-b : tie.Need-shared-slice-read-b Inv-loop μ-loop
 shared-slice-read-b c = omega arith
 
 digit-requires : tie.Need-digit-requires Inv-loop μ-loop
-unfolding digitOf sixteen
+unfolding hexDigitOf sixteen
 digit-requires c κs = (omega (arith, c .before .shared-slice-known2 .given (c .before .before .before .loop .i)), refl)
 
 mul-line : tie.Need-mul-line Inv-loop μ-loop
@@ -34,7 +34,7 @@ slice-write-line : tie.Need-slice-write-line Inv-loop μ-loop
 slice-write-line c = omega arith
 
 digit-requires-2 : tie.Need-digit-requires-2 Inv-loop μ-loop
-unfolding digitOf sixteen
+unfolding hexDigitOf sixteen
 digit-requires-2 c κs = (omega arith, refl)
 
 mul-line-2 : tie.Need-mul-line-2 Inv-loop μ-loop

@@ -1,6 +1,6 @@
 -- `intake::cut::empty` meets its contract. Assumes nothing.
 use mathlib.Core.Path.{refl}
-use Rattle.intake.specs.Desk.{emptyLine}
+use Rattle.intake.specs.Inner.{emptyLine}
 use Rattle.intake.proofs.cut.empty.Statement.{statement}
 use Rattle.intake.proofs.cut.empty.Tie as tie
 

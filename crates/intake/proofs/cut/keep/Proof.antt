@@ -3,7 +3,7 @@ use Prim.Native.Nat.{_-_}
 use native.Mathlib.Omega.{arith}
 use mathlib.Core.Path.{_≡_, refl, sym, _∙_}
 use lib.ListN.{length, drop}
-use Rattle.intake.specs.Desk.{keptIn}
+use Rattle.intake.specs.Inner.{keptIn}
 use Rattle.intake.proofs.Cutting.{kept-next, kept-done}
 use Rattle.intake.proofs.cut.keep.Statement.{statement}
 use Rattle.intake.proofs.cut.keep.Tie as tie

@@ -1,7 +1,7 @@
 -- `intake::cut::push` meets its contract. Assumes nothing.
 use borrow.Author.Needs.{needs}
 use borrow.Author.Tests.{lt-ltb, le-ltb}
-use Rattle.intake.specs.Desk.{pushed}
+use Rattle.intake.specs.Inner.{pushed}
 use Rattle.intake.proofs.cut.push.Statement.{statement}
 use Rattle.intake.proofs.cut.push.Tie as tie
 

@@ -5,7 +5,7 @@ use mathlib.Core.List.{[], _∷_, _++_, append-assoc}
 use lib.ListN.{length-append}
 use Rattle.text.specs.Text.{decimalOf}
 use Rattle.text.proofs.Places.{with-first, with-then}
-use Rattle.intake.specs.Text.{answerText}
+use Rattle.intake.specs.Text.{verdictText}
 use Rattle.intake.proofs.Printed.{answer-long}
 use Rattle.intake.proofs.print.put_answer.Statement.{statement}
 use Rattle.intake.proofs.print.put_answer.Tie as tie
@@ -32,7 +32,7 @@ same-length : tie.Need-same-length
 same-length c = search needs
 
 returns : tie.Need-returns
-unfolding answerText
+unfolding verdictText
 returns c = let z = c .before .before in
     let y = z .before .before .before .before .before in
     let x = y .before .before .before .before in

@@ -4,14 +4,14 @@ use mathlib.Core.Bool.{true}
 use borrow.Author.Tests.{not-true, not-false}
 use Rattle.history.specs.Rules.{Call}
 use Rattle.history.specs.Board.{wellFormed}
-use Rattle.board.specs.Board.{headedOf}
-use Rattle.month.specs.Month.{rulesOf, boardOf, headOf, bookedOf}
-use Rattle.board.specs.declared.Head.{Head}
-use Rattle.board.specs.declared.Headed.{Headed}
-use Rattle.board.proofs.Core.{heads-close}
 use Rattle.history.proofs.Board.{Good, good-runs}
-use Rattle.month.proofs.Sound.{month-sound, month-good, well-days}
-use Rattle.month.proofs.Core.{answer-22, answer-in}
+use Rattle.head.specs.Head.{headedOf}
+use Rattle.head.specs.declared.Head.{Head}
+use Rattle.head.specs.declared.Headed.{Headed}
+use Rattle.head.proofs.Sound.{month-sound}
+use Rattle.head.proofs.Heads.{heads-close}
+use Rattle.month.specs.Month.{rulesOf, boardOf, monthHead, bookedOf}
+use Rattle.month.proofs.Core.{well-days, month-good, answer-22, answer-in}
 use borrow.Author.Needs.{needs}
 use Rattle.month.proofs.Month.close.Statement.{statement}
 use Rattle.month.proofs.Month.close.Tie as tie
@@ -34,8 +34,8 @@ good c = month-good _ (well c) (search needs) (search needs)
 head-requires : tie.Need-head-requires
 head-requires c κs = search needs
 
-close-in-requires : tie.Need-close-in-requires
-close-in-requires c κs = search needs
+close-requires : tie.Need-close-requires
+close-requires c κs = search needs
 
 put-together-requires : tie.Need-put-together-requires
 put-together-requires c κs = search needs
@@ -49,9 +49,9 @@ returns-2 c =
     let m = a .self in
     let call = Call.close in
     let runs = good-runs (rulesOf m) (month-sound (m .days) (well-days m (well e))) (boardOf m) (good e) in
-    let heads = heads-close (headOf m) (m .filled) (m .amounts) runs in
+    let heads = heads-close (monthHead m) (m .marks) (m .amounts) runs in
     c .put-together .ensures
-    ∙ ap (λ (x : Headed). bookedOf (x .refusal) (x .head) (m .filled) (m .amounts)) (n .close-in .ensures ∙ ap (λ (x : Head). headedOf x call) (h .head .ensures))
+    ∙ ap (λ (x : Headed). bookedOf (x .refusal) (x .head) (m .marks) (m .amounts)) (n .close .ensures ∙ ap (λ (x : Head). headedOf x call) (h .head .ensures))
     ∙ answer-in m call _ _ _ _ (well e) (good e) (heads .number) (heads .board) (heads .days)
 
 pub close-spec : {M : Type 1} → statement M
@@ -62,6 +62,6 @@ close-spec =
     unreachable-requires
     returns
     head-requires
-    close-in-requires
+    close-requires
     put-together-requires
     returns-2)

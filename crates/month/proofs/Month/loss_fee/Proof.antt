@@ -4,14 +4,14 @@ use mathlib.Core.Bool.{true}
 use borrow.Author.Tests.{not-true, not-false}
 use Rattle.history.specs.Rules.{Call}
 use Rattle.history.specs.Board.{wellFormed}
-use Rattle.board.specs.Board.{headedOf}
-use Rattle.month.specs.Month.{rulesOf, boardOf, headOf, bookedOf}
-use Rattle.board.specs.declared.Head.{Head}
-use Rattle.board.specs.declared.Headed.{Headed}
-use Rattle.board.proofs.Core.{heads-fee}
 use Rattle.history.proofs.Board.{Good, good-runs}
-use Rattle.month.proofs.Sound.{month-sound, month-good, well-days}
-use Rattle.month.proofs.Core.{answer-22, answer-in}
+use Rattle.head.specs.Head.{headedOf}
+use Rattle.head.specs.declared.Head.{Head}
+use Rattle.head.specs.declared.Headed.{Headed}
+use Rattle.head.proofs.Sound.{month-sound}
+use Rattle.head.proofs.Heads.{heads-fee}
+use Rattle.month.specs.Month.{rulesOf, boardOf, monthHead, bookedOf}
+use Rattle.month.proofs.Core.{well-days, month-good, answer-22, answer-in}
 use borrow.Author.Needs.{needs}
 use Rattle.month.proofs.Month.loss_fee.Statement.{statement}
 use Rattle.month.proofs.Month.loss_fee.Tie as tie
@@ -34,8 +34,8 @@ good c = month-good _ (well c) (search needs) (search needs)
 head-requires : tie.Need-head-requires
 head-requires c κs = search needs
 
-loss-fee-in-requires : tie.Need-loss-fee-in-requires
-loss-fee-in-requires c κs = search needs
+loss-fee-requires : tie.Need-loss-fee-requires
+loss-fee-requires c κs = search needs
 
 put-together-requires : tie.Need-put-together-requires
 put-together-requires c κs = search needs
@@ -47,11 +47,11 @@ returns-2 c =
     let e = h .before .before .before in
     let a = e .before .before .args in
     let m = a .self in
-    let call = Call.lossFee tt (a .amount .0) in
+    let call = (Call.lossFee tt (a .amount .0)) in
     let runs = good-runs (rulesOf m) (month-sound (m .days) (well-days m (well e))) (boardOf m) (good e) in
-    let heads = heads-fee (headOf m) (m .filled) (m .amounts) runs (a .amount .0) in
+    let heads = heads-fee (monthHead m) (m .marks) (m .amounts) runs (a .amount .0) in
     c .put-together .ensures
-    ∙ ap (λ (x : Headed). bookedOf (x .refusal) (x .head) (m .filled) (m .amounts)) (n .loss-fee-in .ensures ∙ ap (λ (x : Head). headedOf x call) (h .head .ensures))
+    ∙ ap (λ (x : Headed). bookedOf (x .refusal) (x .head) (m .marks) (m .amounts)) (n .loss-fee .ensures ∙ ap (λ (x : Head). headedOf x call) (h .head .ensures))
     ∙ answer-in m call _ _ _ _ (well e) (good e) (heads .number) (heads .board) (heads .days)
 
 pub loss-fee-spec : {M : Type 1} → statement M
@@ -62,6 +62,6 @@ loss-fee-spec =
     unreachable-requires
     returns
     head-requires
-    loss-fee-in-requires
+    loss-fee-requires
     put-together-requires
     returns-2)

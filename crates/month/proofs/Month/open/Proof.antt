@@ -1,26 +1,28 @@
--- `Month::open` meets its contract: by its one test. Assumes nothing.
-use mathlib.Core.Path.{sym, _∙_}
-use Rattle.month.specs.Month.{openOf}
+-- `Month::open` meets its contract: the head's answer, with every place empty. Assumes nothing.
+use mathlib.Core.Path.{ap, _∙_}
+use mathlib.Core.Bool.{false}
+use lib.IntN.{pos}
+use lib.ListN.{replicate}
+use Rattle.units.specs.Limits.{monthPlaces}
+use Rattle.head.specs.declared.Headed.{Headed}
+use Rattle.month.specs.Month.{bookedOf}
+use Rattle.month.proofs.Core.{open-is}
 use borrow.Author.Needs.{needs}
-use Rattle.month.proofs.Month.open.Statement.{statement}
-use Rattle.month.proofs.Month.open.Tie as tie
+use Rattle.month.proofs.Month.«open».Statement.{statement}
+use Rattle.month.proofs.Month.«open».Tie as tie
 
-is-days-requires : tie.Need-is-days-requires
-is-days-requires c κs = search needs
+open-requires : tie.Need-open-requires
+open-requires c κs = search needs
 
-fresh-requires : tie.Need-fresh-requires
-fresh-requires c κs = search needs
+put-together-requires : tie.Need-put-together-requires
+put-together-requires c κs = search needs
 
 returns : tie.Need-returns
-unfolding openOf
-returns c = let t = c .before in rw (sym (t .before .is-days .ensures) ∙ t .if1 .taken, c .fresh .ensures)
-
-fresh-requires-2 : tie.Need-fresh-requires-2
-fresh-requires-2 c κs = search needs
-
-returns-2 : tie.Need-returns-2
-unfolding openOf
-returns-2 c = let t = c .before in rw (sym (t .before .is-days .ensures) ∙ t .if1 .left, c .fresh2 .ensures)
+returns c =
+    let o = c .before .before in
+    c .put-together .ensures
+    ∙ ap (λ (h : Headed). bookedOf (h .refusal) (h .head) (replicate monthPlaces false) (replicate monthPlaces (pos 0))) (o .«open» .ensures)
+    ∙ open-is (o .before .args .days)
 
 pub open-spec : {M : Type 1} → statement M
-open-spec = tie.close (tie.spec is-days-requires fresh-requires returns fresh-requires-2 returns-2)
+open-spec = tie.close (tie.spec open-requires put-together-requires returns)

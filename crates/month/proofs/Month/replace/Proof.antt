@@ -1,14 +1,13 @@
 -- `Month::replace` meets its contract: 22, and then the call in place. Assumes nothing.
-use mathlib.Core.Path.{_≡_, refl, sym, _∙_}
+use mathlib.Core.Path.{_≡_, sym, _∙_}
 use mathlib.Core.Bool.{true}
 use borrow.Author.Tests.{not-true, not-false}
-use Rattle.history.specs.Rules.{Call}
+use Rattle.history.specs.Rules.{Call, Deed}
 use Rattle.history.specs.Board.{wellFormed}
-use Rattle.board.specs.Board.{amountItem}
-use Rattle.month.specs.Month.{rulesOf, boardOf, headOf}
-use Rattle.history.proofs.Board.{Good}
-use Rattle.month.proofs.Sound.{month-good}
-use Rattle.month.proofs.Core.{answer-22, answer-in}
+use Rattle.history.proofs.Board.{Good, replace-at}
+use Rattle.head.specs.Rules.{amountItem}
+use Rattle.month.specs.Month.{rulesOf, boardOf}
+use Rattle.month.proofs.Core.{month-good, answer-22, answer-at}
 use borrow.Author.Needs.{needs}
 use Rattle.month.proofs.Month.replace.Statement.{statement}
 use Rattle.month.proofs.Month.replace.Tie as tie
@@ -31,6 +30,9 @@ good c = month-good _ (well c) (search needs) (search needs)
 head-requires : tie.Need-head-requires
 head-requires c κs = search needs
 
+place-of-requires : tie.Need-place-of-requires
+place-of-requires c κs = search needs
+
 slice-aggregate-replace-in : tie.Need-slice-aggregate-replace-in
 slice-aggregate-replace-in c = search needs
 
@@ -46,13 +48,14 @@ put-together-requires c κs = search needs
 returns-2 : tie.Need-returns-2
 returns-2 c =
     let p = c .before .before .before in
-    let h = p .before .before .before .before .before in
+    let o = p .before .before .before in
+    let h = o .before .before .before in
     let e = h .before in
     let a = e .before .before .args in
-    let number = rw (h .head .ensures) at (p .replace-in .ensures .0) in
-    let board = rw (h .head .ensures) at (p .replace-in .ensures .1) in
-    (rw (h .head .ensures) at (c .put-together .ensures))
-    ∙ answer-in (a .self) (Call.replace (a .day) (a .hour) (amountItem (a .amount .0))) _ (headOf (a .self)) _ _ (well e) (good e) number board refl
+    c .put-together .ensures
+    ∙ answer-at (a .self) (Call.replace (a .day) (a .hour) (amountItem (a .amount .0))) (Deed.replaces (amountItem (a .amount .0))) (a .day) (a .hour)
+    (replace-at (rulesOf (a .self)) (boardOf (a .self)) (a .day) (a .hour) (amountItem (a .amount .0))) _ _ _ _ _ (well e) (good e)
+    (h .head .ensures) (o .place-of .ensures) (p .replace-in .ensures .0) (p .replace-in .ensures .1)
 
 pub replace-spec : {M : Type 1} → statement M
 replace-spec =
@@ -62,6 +65,7 @@ replace-spec =
     unreachable-requires
     returns
     head-requires
+    place-of-requires
     slice-aggregate-replace-in
     slice-aggregate-replace-in-2
     replace-in-requires

@@ -2,8 +2,8 @@
 use mathlib.Core.Path.{_≡_, sym, _∙_}
 use mathlib.Core.Bool.{true, false}
 use borrow.Author.Tests.{not-true, not-false}
-use Rattle.history.specs.Board.{wellFormed, hoursOn}
-use Rattle.month.specs.Month.{rulesOf, boardOf, standingOf}
+use Rattle.history.specs.Board.{wellFormed, standingOn}
+use Rattle.month.specs.Month.{rulesOf, boardOf, standingTold}
 use borrow.Author.Needs.{needs}
 use Rattle.month.proofs.Month.standing.Statement.{statement}
 use Rattle.month.proofs.Month.standing.Tie as tie
@@ -12,14 +12,14 @@ well-formed-requires : tie.Need-well-formed-requires
 well-formed-requires c κs = search needs
 
 returns : tie.Need-returns
-unfolding standingOf
+unfolding standingTold
 returns c = let e : wellFormed (rulesOf (c .before .before .args .t1)) (boardOf (c .before .before .args .t1)) ≡ false = sym (c .before .well-formed .ensures) ∙ not-true _ (c .if1 .taken) in rw e
 
 standing-in-requires : tie.Need-standing-in-requires
 standing-in-requires c κs = search needs
 
 returns-2 : tie.Need-returns-2
-unfolding standingOf hoursOn
+unfolding standingTold standingOn
 returns-2 c =
     let l = c .before .before .before in
     let m = l .before .before .args .t1 in

@@ -9,8 +9,10 @@ use borrow.Author.Tests.{eq-eqb}
 use Rattle.whole.proofs.Choice.{both}
 use Rattle.history.specs.Board.{runsFit, ledgerRefusal}
 use Rattle.history.proofs.Board.{ledger-test}
-use Rattle.board.specs.Board.{monthRules, boardIn}
-use Rattle.board.specs.declared.Head.{Head}
+use Rattle.units.specs.Limits.{monthPlaces}
+use Rattle.head.specs.Rules.{monthRules}
+use Rattle.head.specs.Head.{boardIn}
+use Rattle.head.specs.declared.Head.{Head}
 use Rattle.month.specs.Month.{rulesOf, boardOf}
 use Rattle.month.proofs.Month.well_formed.Statement.{statement}
 use Rattle.month.proofs.Month.well_formed.Tie as tie
@@ -25,8 +27,8 @@ returns : tie.Need-returns
 returns c =
     let h = c .before .before .before .before .before .before in
     let m = h .before .args .t1 in
-    let runs : runsFit (rulesOf m) (boardOf m) ≡ true = both (eq-eqb (length (m .filled)) 744 (search needs)) (eq-eqb (length (m .amounts)) 744 (search needs)) in
-    let number = c .check-in .ensures ∙ ap (λ (x : Head). ledgerRefusal (monthRules (x .days)) (boardIn x (m .filled) (m .amounts))) (h .head .ensures) in
+    let runs : runsFit (rulesOf m) (boardOf m) ≡ true = both (eq-eqb (length (m .marks)) monthPlaces (search needs)) (eq-eqb (length (m .amounts)) monthPlaces (search needs)) in
+    let number = c .check-in .ensures ∙ ap (λ (x : Head). ledgerRefusal (monthRules (x .days)) (boardIn x (m .marks) (m .amounts))) (h .head .ensures) in
     ap (λ (k : ℕ). eqb k 0) number ∙ ledger-test (rulesOf m) (boardOf m) runs
 
 pub well-formed-spec : {M : Type 1} → statement M

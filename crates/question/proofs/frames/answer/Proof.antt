@@ -1,3 +1,4 @@
+-- `question::frames::answer` meets its contract: by what is asked. Assumes nothing.
 use borrow.Author.Needs.{needs}
 use Rattle.question.proofs.frames.answer.Statement.{statement}
 use Rattle.question.proofs.frames.answer.Tie as tie
@@ -17,6 +18,9 @@ of-hour-requires-2 c κs = search needs
 enum-told-3 : tie.Need-enum-told-3
 enum-told-3 c = search needs
 
+head-of-requires : tie.Need-head-of-requires
+head-of-requires c κs = search needs
+
 asked-requires : tie.Need-asked-requires
 asked-requires c κs = search needs
 
@@ -27,7 +31,7 @@ returns-2 : tie.Need-returns-2
 returns-2 c = rw (c .before .enum-told2 .given .1) (c .of-hour2 .ensures)
 
 returns-3 : tie.Need-returns-3
-returns-3 c = rw (c .before .enum-told3 .given .1) (c .asked .ensures)
+returns-3 c = rw (c .before .before .enum-told3 .given .1) (rw (c .before .head-of .ensures) at (c .asked .ensures))
 
 pub answer-spec : {M : Type 1} → statement M
 answer-spec =
@@ -38,6 +42,7 @@ answer-spec =
     enum-told-2
     of-hour-requires-2
     enum-told-3
+    head-of-requires
     asked-requires
     returns
     returns-2

@@ -1,22 +1,25 @@
--- `question::frames::asked` meets its contract. Assumes nothing.
-use borrow.Author.Needs.{needs}
+-- `question::frames::asked` meets its contract: the numbers stand side by side. Assumes nothing.
+use lib.IntN.{pos}
+use lib.ListN.{getD}
 use mir.Syntax.{w64}
-use Rattle.whole.proofs.Signed.{back}
+use mir.Val.{SFits}
+use mir.Facts.{toZ-ofZ}
 use Rattle.question.specs.Frames.{frameAsked}
+use borrow.Author.Needs.{needs}
 use Rattle.question.proofs.frames.asked.Statement.{statement}
 use Rattle.question.proofs.frames.asked.Tie as tie
 
-at-requires : tie.Need-at-requires
-at-requires c κs = search needs
+array-copy-out-framed : tie.Need-array-copy-out-framed
+array-copy-out-framed c = search needs
 
-at-requires-2 : tie.Need-at-requires-2
-at-requires-2 c κs = search needs
+array-copy-out-framed-2 : tie.Need-array-copy-out-framed-2
+array-copy-out-framed-2 c = search needs
 
-at-requires-3 : tie.Need-at-requires-3
-at-requires-3 c κs = search needs
+array-copy-out-framed-3 : tie.Need-array-copy-out-framed-3
+array-copy-out-framed-3 c = search needs
 
-at-requires-4 : tie.Need-at-requires-4
-at-requires-4 c κs = search needs
+array-copy-out-framed-4 : tie.Need-array-copy-out-framed-4
+array-copy-out-framed-4 c = search needs
 
 framed-requires : tie.Need-framed-requires
 framed-requires c κs = search needs
@@ -24,12 +27,20 @@ framed-requires c κs = search needs
 returns : tie.Need-returns
 unfolding frameAsked
 returns c =
-    let f = c .before in
-    let d = f .before in
-    let b = d .before in
-    rw (c .framed .ensures, back w64 (b .before .at .ok) (b .before .at .ensures), back w64 (b .at2 .ok) (b .at2 .ensures), back w64 (d .at3 .ok) (d .at3 .ensures), back w64 (f .at4 .ok) (f .at4 .ensures))
+    let head = c .before .before .before .before .before .args .t1 in
+    let n0 : SFits w64 (getD head 0 (pos 0)) = search needs in
+    let n1 : SFits w64 (getD head 1 (pos 0)) = search needs in
+    let n2 : SFits w64 (getD head 2 (pos 0)) = search needs in
+    let n3 : SFits w64 (getD head 3 (pos 0)) = search needs in
+    rw (c .framed .ensures, toZ-ofZ n0, toZ-ofZ n1, toZ-ofZ n2, toZ-ofZ n3)
 
 pub asked-spec : {M : Type 1} → statement M
 asked-spec =
     tie.close
-    (tie.spec at-requires at-requires-2 at-requires-3 at-requires-4 framed-requires returns)
+    (tie.spec
+    array-copy-out-framed
+    array-copy-out-framed-2
+    array-copy-out-framed-3
+    array-copy-out-framed-4
+    framed-requires
+    returns)

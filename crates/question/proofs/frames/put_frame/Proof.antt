@@ -3,14 +3,15 @@ use borrow.Author.Needs.{needs}
 use Prim.Native.Nat.{ℕ, _+_, _≤_}
 use native.Mathlib.Omega.{arith}
 use mathlib.Core.Path.{_≡_, sym, ap, _∙_}
-use mathlib.Core.List.{List, [], _∷_, _++_}
+use mathlib.Core.List.{[], _∷_}
 use lib.ListN.{length, length-append}
 use borrow.Author.Tests.{ne-eqb}
 use Rattle.whole.specs.Choice.{orElse}
 use Rattle.whole.proofs.Choice.{both-passed}
-use Rattle.frame.specs.Frame.{lineOf, writeRefusal}
+use Rattle.frame.specs.Frame.{writeRefusal}
 use Rattle.frame.proofs.Frames.{write-right}
-use Rattle.question.specs.Lines.{room, frameRefusal, frameText}
+use Rattle.question.specs.Lines.{framedRefusal, frameText}
+use Rattle.question.specs.Inner.{room}
 use Rattle.question.proofs.LineLaws.{begin}
 use Rattle.question.proofs.frames.put_frame.Statement.{statement}
 use Rattle.question.proofs.frames.put_frame.Tie as tie
@@ -28,7 +29,7 @@ or-else-requires : tie.Need-or-else-requires
 or-else-requires c κs = search needs
 
 -- the number of the refusal, and the digits' count
-number : (c : tie.After-or-else) → frameRefusal (c .before .before .before .before .before .before .args .framed) ≡ c .or-else .result
+number : (c : tie.After-or-else) → framedRefusal (c .before .before .before .before .before .before .args .framed) ≡ c .or-else .result
 number c = sym (c .or-else .ensures ∙ ap (orElse (c .before .before .before .before .before .before .args .framed .refusal)) (c .before .before .write-frame .ensures .0))
 
 long : (c : tie.After-write-frame) → length (c .write-frame .last .1 .0) ≡ 24
@@ -69,7 +70,7 @@ unfolding frameText
 returns-2 c =
     let p = c .before .before in
     let e = p .before .before in
-    rw (ne-eqb (frameRefusal (e .before .before .before .before .before .before .before .args .framed)) 0 (λ z. e .if1 .left (sym (number (e .before)) ∙ z))) (rw (sym (number (e .before))) at (p .put-alone .ensures))
+    rw (ne-eqb (framedRefusal (e .before .before .before .before .before .before .before .args .framed)) 0 (λ z. e .if1 .left (sym (number (e .before)) ∙ z))) (rw (sym (number (e .before))) at (p .put-alone .ensures))
 
 pub put-frame-spec : {M : Type 1} → statement M
 put-frame-spec =

@@ -6,7 +6,6 @@ use mathlib.Core.List.{[], _∷_}
 use mir.Facts.{toZ-ofZ}
 use Rattle.text.specs.Text.{signedText}
 use Rattle.text.proofs.Places.{place-fits, text-fits, with-then}
-use Rattle.text.proofs.Spelling.{length-signed}
 use Rattle.question.proofs.lines.put_field.Statement.{statement}
 use Rattle.question.proofs.lines.put_field.Tie as tie
 
@@ -28,10 +27,9 @@ returns c =
     let q = p .before .before .before .before in
     let s = q .before .before .before .before in
     let a = s .args in
-    let long = length-signed (a .z) (s .fits .z) in
     let z = rw (toZ-ofZ (s .fits .z)) at (p .put-signed .ensures) in
     let w = with-then (a .out .now) _ _ (a .at) _ _ (32 ∷ []) (signedText (a .z)) (omega arith) (q .put .ensures .0 ∙ place-fits _ _ _ (omega arith)) (q .put .ensures .1 ∙ text-fits _ _ _ (omega arith)) (z .0) (z .1) in
-    (w .0, (w .1, omega (arith, w .0)))
+    w
 
 pub put-field-spec : {M : Type 1} → statement M
 put-field-spec =

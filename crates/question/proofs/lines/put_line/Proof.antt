@@ -8,7 +8,7 @@ use lib.ListN.{length, length-append}
 use Rattle.text.specs.Text.{decimalOf, put}
 use Rattle.text.proofs.Places.{length-put}
 use Rattle.text.proofs.Spelling.{length-decimal}
-use Rattle.question.specs.Lines.{fieldsText, lineText, lineEnd}
+use Rattle.question.specs.Lines.{fieldsText, lineText, endOfLine}
 use Rattle.question.proofs.LineLaws.{Begun, begin, more, further}
 use Rattle.question.proofs.lines.put_line.Statement.{statement}
 use Rattle.question.proofs.lines.put_line.Tie as tie
@@ -27,7 +27,7 @@ as-long : (c : tie.After-put-decimal) → length (c .put-decimal .last .0) ≡ l
 as-long c = ap length (begun c .1) ∙ length-put _ 0 _ (omega (arith, few c))
 
 put-fields-requires : tie.Need-put-fields-requires
-put-fields-requires c κs = let p = c .before .before .before in omega (arith, few p, begun p .0, as-long p)
+put-fields-requires c κs = let p = c .before .before .before in (omega (arith, few p, begun p .0, as-long p), p .before .before .before .pre .1)
 
 slice-aggregate-put : tie.Need-slice-aggregate-put
 slice-aggregate-put c = search needs
@@ -51,9 +51,9 @@ returns c =
     let fields = fieldsText (a .fields .now) in
     let e = y .put-fields .ensures in
     let two = further out _ _ _ _ first fields (omega (arith, few x)) (begun x) (e .0) (e .1 .0) in
-    let three = more out _ _ _ _ _ lineEnd (omega (arith, few x, two .0, e .1 .1, begun x .0)) two (z .put .ensures .0) (z .put .ensures .1) in
-    let g = append-assoc first fields lineEnd in
-    (three .0 ∙ ap length g, (three .1 ∙ ap (put out 0) g, omega (arith, three .0, length-append (first ++ fields) lineEnd, two .0, few x, e .1 .1, begun x .0)))
+    let three = more out _ _ _ _ _ endOfLine (omega (arith, few x, two .0, e .1 .1, begun x .0)) two (z .put .ensures .0) (z .put .ensures .1) in
+    let g = append-assoc first fields endOfLine in
+    (three .0 ∙ ap length g, (three .1 ∙ ap (put out 0) g, omega (arith, three .0, length-append (first ++ fields) endOfLine, two .0, few x, e .1 .1, begun x .0)))
 
 pub put-line-spec : {M : Type 1} → statement M
 put-line-spec =

@@ -1,0 +1,5 @@
+-- The theorems.
+pub mod ByValue
+pub mod Transcript
+pub mod Demand
+pub mod Contracts

@@ -1,0 +1,1 @@
+// From the program's input to what it prints: definitions and theorems alone.

@@ -1,0 +1,70 @@
+-- What only mirrors the code: the lent run that a question's numbers go into, and the state that is carried through a chunk.
+use Prim.Native.Nat.{ℕ, suc}
+use mathlib.Core.Bool.{Bool, true, false}
+use mathlib.Core.List.{List, [], _∷_}
+use lib.Dec.{eqb}
+use lib.IntN.{ℤ}
+use lib.ListN.{length, set}
+use Rattle.whole.specs.Choice.{pick, kept}
+use Rattle.units.specs.Refusals.{wrongLength}
+use Rattle.tokens.specs.Bytes.{parts}
+use Rattle.tokens.specs.Tokens.{tokenNumber}
+use Rattle.tokens.specs.declared.Token.{Token}
+use Rattle.asked.specs.Asking.{mostNumbers, nothing, tokenFault, begins, stepped, lastState, stateNext}
+use Rattle.asked.specs.declared.State.{State}
+use Rattle.asked.specs.declared.Reached.{Reached}
+
+-- the run, with the token's number at the next place
+unfoldable pub stored : ℕ → Token → List ℤ → List ℤ
+stored count token run = kept (tokenFault count token) (set run count (tokenNumber token .value)) run
+
+unfoldable pub runStepped : State → ℕ → List ℤ → List ℤ
+runStepped state b run = pick (parts b) (stored (state .asked .count) (state .token) run) run
+
+-- ---- a chunk, up to the byte that begins the next question
+
+abbrev pub takenIn : State → List ℕ → ℕ
+takenIn state [] = 0
+takenIn state (b ∷ bs) = pick (begins state b) 0 (suc (takenIn (stepped state b) bs))
+
+abbrev pub stateIn : State → List ℕ → State
+stateIn state [] = state
+stateIn state (b ∷ bs) = pick (begins state b) state (stateIn (stepped state b) bs)
+
+abbrev pub runIn : State → List ℕ → List ℤ → List ℤ
+runIn state [] run = run
+runIn state (b ∷ bs) run = pick (begins state b) run (runIn (stepped state b) bs (runStepped state b run))
+
+abbrev pub endedIn : State → List ℕ → Bool
+endedIn state [] = false
+endedIn state (b ∷ bs) = pick (begins state b) true (endedIn (stepped state b) bs)
+
+-- a run of any other length is refused with 1, and then nothing is changed
+abbrev pub isRun : List ℤ → Bool
+isRun run = eqb (length run) mostNumbers
+
+abbrev pub refused : State → Reached
+refused state = record { refusal = wrongLength; asked = nothing; state = state; taken = 0; ended = false }
+
+-- what is handed back of a state that was reached: its question, and the state to go on with
+unfoldable pub reachedOf : State → ℕ → Bool → Reached
+reachedOf state taken ended =
+    record { refusal = 0; asked = state .asked; state = pick ended (stateNext state) state; taken = taken; ended = ended }
+
+-- the input's end, which a chunk of no bytes is
+abbrev pub endOf : State → Reached
+endOf state = reachedOf (lastState state) 0 (lastState state .asked .opened)
+
+abbrev pub answerIn : State → List ℕ → Reached
+answerIn state [] = endOf state
+answerIn state (b ∷ bs) = reachedOf (stateIn state (b ∷ bs)) (takenIn state (b ∷ bs)) (endedIn state (b ∷ bs))
+
+abbrev pub runAfter : State → List ℕ → List ℤ → List ℤ
+runAfter state [] run = stored (state .asked .count) (state .token) run
+runAfter state (b ∷ bs) run = runIn state (b ∷ bs) run
+
+unfoldable pub readOf : State → List ℕ → List ℤ → Reached
+readOf state chunk run = pick (isRun run) (answerIn state chunk) (refused state)
+
+unfoldable pub readRun : State → List ℕ → List ℤ → List ℤ
+readRun state chunk run = pick (isRun run) (runAfter state chunk run) run

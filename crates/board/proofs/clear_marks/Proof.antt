@@ -1,0 +1,56 @@
+-- `board::clear_marks` meets its contract. The loop's invariant: the first i places are cleared. Assumes nothing.
+use Prim.Native.Nat.{_≤_, _-_}
+use native.Mathlib.Omega.{arith}
+use mathlib.Core.Path.{_≡_, refl, _∙_}
+use mathlib.Core.Bool.{false}
+use lib.ListN.{length, length-set}
+use Rattle.whole.specs.Runs.{filled as cleared}
+use Rattle.whole.proofs.Runs.{filled-next}
+use Rattle.board.proofs.Cleared.{all-same}
+use Rattle.board.proofs.clear_marks.Statement.{statement}
+use Rattle.board.proofs.clear_marks.Tie as tie
+
+abbrev Inv-loop : tie.InvT-loop
+Inv-loop marks₀ i₀ marks i = (i ≤ length marks₀) × (length marks ≡ length marks₀) × (marks ≡ cleared (λ _. false) 0 marks₀ i)
+
+abbrev μ-loop : tie.MeasureT-loop
+μ-loop marks₀ i₀ marks i = length marks₀ - i
+
+loop-holds : tie.Need-loop-holds Inv-loop μ-loop
+loop-holds c = (omega arith, refl, refl)
+
+slice-write-marks : tie.Need-slice-write-marks Inv-loop μ-loop
+slice-write-marks c = omega arith
+
+add-i : tie.Need-add-i Inv-loop μ-loop
+add-i c = omega arith
+
+loop-less : tie.Need-loop-less Inv-loop μ-loop
+loop-less c = omega arith
+
+loop-again : tie.Need-loop-again Inv-loop μ-loop
+loop-again c = let l = c .before .loop in
+    let r = c .before .before .args .marks .now in
+    (omega arith, simp length-set (l .inv .1), rw (l .inv .2) (filled-next (λ _. false) r (l .i) (omega arith)))
+
+same-length : tie.Need-same-length Inv-loop μ-loop
+same-length c = c .before .loop .inv .1
+
+returns : tie.Need-returns Inv-loop μ-loop
+returns c = let l = c .before .loop in
+    let r = c .before .before .args .marks .now in
+    l .inv .2 ∙ all-same false r (l .i) (omega arith)
+
+pub clear-marks-spec : {M : Type 1} → statement M
+clear-marks-spec =
+    tie.close
+    (tie.spec
+    Inv-loop
+    μ-loop
+    loop-holds
+    slice-write-marks
+    add-i
+    loop-less
+    loop-again
+    same-length
+    returns)

@@ -1,0 +1,3 @@
+-- One line taken to the ledger.
+pub mod Book
+pub mod Inner

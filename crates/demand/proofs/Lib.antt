@@ -1,0 +1,3 @@
+-- The theorems.
+pub mod Demand
+pub mod Reach

@@ -1,0 +1,2 @@
+-- The month ledger as demand 3 sees it.
+pub mod Ledger

@@ -1,0 +1,405 @@
+#!/usr/bin/env python3
+"""Prints crates/figures_hours/stdout by a way of its own: over the model of crates/figures/expected.py, whose own lines are left out.
+
+It shares nothing with the Rattle code. `python3 crates/figures_hours/expected.py | cmp - crates/figures_hours/stdout` holds the stored output to it."""
+import contextlib
+import io
+import os
+import sys
+
+sys.path.insert(0, os.path.join(os.path.dirname(os.path.abspath(__file__)), "..", "figures"))
+with contextlib.redirect_stdout(io.StringIO()):
+    from expected import *
+
+# ---- the fees of an hour
+
+
+def is_price(price):
+    return 0 <= price <= 10**7
+
+
+def fee(price, capacity):
+    if not 1 <= capacity <= 100000:
+        return 2, 0
+    return (0, nearest(Fraction(price, 100) * Fraction(capacity, 1000))) if is_price(price) else (3, 0)
+
+
+def quality(capacity, performance, tenths):
+    if not (0 <= capacity <= 10**7 and 0 <= performance <= 10**7):
+        return 3, 0
+    return (0, nearest((capacity + performance) * Fraction(tenths, 10))) if -240 <= tenths <= 10 else (5, 0)
+
+
+def energy(powers, targets, discharge, charge):
+    if len(powers) != 3600:
+        return 1, 0
+    if not (is_price(discharge) and is_price(charge)):
+        return 3, 0
+    if max(map(abs, targets)) > 100000:
+        return 10, 0
+    if max(map(abs, powers)) > 200000:
+        return 4, 0
+    dollars = Fraction(0)
+    for n, target in enumerate(targets):
+        mean = Fraction(sum(powers[900 * n : 900 * n + 900]), 900) / 1000
+        dollars += (target > 0) * Fraction(discharge, 100) * mean / 4
+        dollars -= (target < 0) * Fraction(charge, 100) * mean / 4
+    return 0, nearest(dollars)
+
+
+line("document 001, example 1: capacity and performance fees")
+assert [fee(100 * p, 10000) for p in (320, 350, 443)] == [(0, 3200), (0, 3500), (0, 4430)]
+for price, capacity in [
+    (32000, 10000),
+    (35000, 10000),
+    (44300, 10000),
+    (49, 1000),
+    (50, 1000),
+    (0, 1),
+    (10**7, 10**5),
+    (10**7 + 1, 10**5),
+    (-1, 10**5),
+    (10**7, 10**5 + 1),
+    (10**7, 0),
+    (10**7 + 1, 0),
+    (MOST, LEAST),
+    (LEAST, 1),
+]:
+    line("fee", price, capacity, *fee(price, capacity))
+line("quality parts")
+assert quality(4350, 3500, 8) == (0, 6280) and quality(4400, 3500, -10) == (0, -7900)
+for part in [
+    (4350, 3500, 8),
+    (4400, 3500, -10),
+    (1, 0, 5),
+    (1, 0, 4),
+    (1, 0, -5),
+    (1, 0, -4),
+    (2, 1, 5),
+    (2, 1, -5),
+    (10**7, 10**7, 10),
+    (10**7, 10**7, -240),
+    (10**7 + 1, 0, 10),
+    (0, 10**7 + 1, 10),
+    (-1, 0, 10),
+    (0, 0, 11),
+    (0, 0, -241),
+    (-1, 0, 11),
+    (LEAST, MOST, LEAST),
+]:
+    line("quality part", *part, *quality(*part))
+
+
+def means(*quarters):
+    return [mean for mean in quarters for _ in range(900)]
+
+
+line("document 001, table 5: the energy service fee")
+table_5 = means(-3000, -2900, 100, -3200)
+assert energy(table_5, [-3000] * 4, 200000, 50000) == (0, 1125)
+full = means(*[200000] * 4)
+high = but(200000, 3599, 3600, 200001)
+for label, powers, target, discharge, charge in [
+    ("table 5", table_5, -3000, 200000, 50000),
+    ("no target", table_5, 0, 200000, 50000),
+    ("discharging", table_5, 3000, 200000, 50000),
+    ("a half", means(0, 0, 0, 2), 1, 100000, 0),
+    ("a half charging", means(0, 0, 0, 2), -1, 0, 100000),
+    ("less than a half", means(0, 0, 0, 2), 1, 99999, 0),
+    ("most", full, 10**5, 10**7, 10**7),
+    ("least", full, -(10**5), 10**7, 10**7),
+    ("price above", full, 1, 10**7 + 1, 0),
+    ("price below", full, 1, 0, -1),
+    ("target above", full, 100001, 0, 0),
+    ("price and target above", full, 100001, 10**7 + 1, 0),
+    ("a power above", high, 1, 0, 0),
+    ("a power and a target above", high, 100001, 0, 0),
+    ("3,599 powers", [200001] * 3599, 100001, 10**7 + 1, 0),
+]:
+    line(label, *energy(powers, [target] * 4, discharge, charge))
+
+
+# ---- the loss fee
+
+
+def loss(charged, discharged, voltage, cost):
+    if not (0 <= charged <= 10**8 and 0 <= discharged <= 10**8 and 1 <= voltage <= 10**6):
+        return 15, 0, 0, 0
+    if not 0 <= cost <= 10**6:
+        return 3, 0, 0, 0
+    by = Fraction("1.08") if voltage < 11400 else Fraction("1.05") if voltage < 69000 else Fraction("1.04")
+    net = max(0, charged - discharged)
+    above = max(Fraction(0), net - Fraction(charged, 5))
+    basic = nearest(net * by * Fraction(cost, 10000))
+    excess = nearest(above * by * Fraction(cost, 10000) * 2)
+    return 0, basic, excess, basic + excess
+
+
+line("document 001, example 5: the loss fee")
+assert loss(120000, 84000, 22800, 40000) == (0, 151200, 100800, 252000)
+assert loss(120000, 96000, 22800, 40000)[2] == 0
+PAST = [
+    (100000001, 0, 22800, 40000),
+    (-1, 0, 22800, 40000),
+    (0, 100000001, 22800, 40000),
+    (0, -1, 22800, 40000),
+    (0, 0, 0, 40000),
+    (0, 0, 1000001, 40000),
+    (0, 0, 22800, 1000001),
+    (0, 0, 22800, -1),
+    (-1, 0, 22800, -1),
+    (MOST, LEAST, LEAST, MOST),
+]
+for case in [
+    (120000, 84000, 22800, 40000),
+    (120000, 96000, 22800, 40000),
+    (120000, 84000, 11399, 40000),
+    (120000, 84000, 11400, 40000),
+    (120000, 84000, 68999, 40000),
+    (120000, 84000, 69000, 40000),
+    (84000, 120000, 22800, 40000),
+    (20, 0, 22800, 5000),
+    (20, 0, 22800, 4999),
+    (100000000, 0, 1, 1000000),
+    (100000000, 100000000, 1000000, 0),
+]:
+    line("loss fee", *case, *loss(*case))
+line("loss fees past the limits")
+for case in PAST:
+    line("loss fee", *case, *loss(*case))
+
+
+# ---- document 001's months
+
+
+def settle(m, d, h, mw, clearing, performance, r, service, printed):
+    capacity = fee(100 * clearing, 1000 * mw)[1]
+    performance = fee(100 * performance, 1000 * mw)[1]
+    _, tenths = list_s(r)
+    amount = quality(capacity, performance, tenths)[1] + service
+    assert (capacity, performance, tenths, amount) == printed
+    k, m = m.post(d, h, amount)
+    line("hour", h, capacity, performance, r, tenths, service, amount, k)
+    return m
+
+
+def day(m, d, printed):
+    assert m.day(d) == (0, printed)
+    line("day", d, *m.day(d))
+
+
+def total(m, loss_fee, printed):
+    k, m = m.loss_fee(loss_fee)
+    assert m.total() == (0, printed)
+    line("total", k, *m.total())
+
+
+line("document 001, table 4: a dReg month")
+_, m = opened(31)
+for d, h, mw, clearing, r, printed in [
+    (3, 10, 10, 430, 96, (4300, 3500, 10, 7800)),
+    (3, 11, 10, 435, 94, (4350, 3500, 8, 6280)),
+    (3, 12, 10, 440, 69, (4400, 3500, -10, -7900)),
+    (3, 13, 10, 442, 70, (4420, 3500, 0, 0)),
+    (4, 8, 12, 420, 93, (5040, 4200, 6, 5544)),
+    (4, 9, 12, 410, 94, (4920, 4200, 8, 7296)),
+    (4, 10, 12, 415, 95, (4980, 4200, 10, 9180)),
+]:
+    m = settle(m, d, h, mw, clearing, 350, r, 0, printed)
+day(m, 3, 6180)
+day(m, 4, 22020)
+total(m, 8658, 19542)
+
+line("document 001, table 6: an E-dReg month")
+_, m = opened(30)
+rest = lambda first, last, clearing, printed: [(h, clearing, 95, 0, 0, 0, printed) for h in range(first, last + 1)]
+APRIL = [
+    (0, 420, 99, -3500, -3000, 1750, (4200, 4750, 10, 10700)),
+    (1, 430, 94, -3000, -3000, 1500, (4300, 4750, 8, 8740)),
+    (2, 425, 96, -4200, -4000, 2100, (4250, 4750, 10, 11100)),
+    *rest(3, 16, 430, (4300, 4750, 10, 9050)),
+    (17, 450, 92, 4200, 4000, 8400, (4500, 4750, 4, 12100)),
+    (18, 455, 90, 2200, 3000, 4400, (4550, 4750, 0, 4400)),
+    (19, 440, 91, 2500, 3000, 5000, (4400, 4750, 2, 6830)),
+    *rest(20, 22, 420, (4200, 4750, 10, 8950)),
+    (23, 420, 96, 0, 0, 0, (4200, 4750, 10, 8950)),
+]
+assert 14 * 9050 == 126700 and 3 * 8950 == 26850
+for h, clearing, r, mean, target, service, printed in APRIL:
+    assert energy([mean] * 3600, [target] * 4, 200000, 50000) == (0, service)
+    m = settle(m, 12, h, 10, clearing, 475, r, service, printed)
+day(m, 12, 216370)
+total(m, 35488, 180882)
+
+# The notice prints -8,560, from amounts that are not rounded.
+line("document 001, table 11: hours are rounded, then added")
+_, m = opened(31)
+for h, a in zip(range(18, 24), (-31817, 10325, 8183, 1575, 1575, 1600)):
+    _, m = m.post(4, h, a)
+day(m, 4, -8559)
+total(m, 0, -8559)
+
+
+# ---- whole hours
+
+
+def hour(powers, frequencies, scores, terms, thresholds, factors):
+    capacity, clearing, performance, discharge, charge, targets = terms
+    if not len(powers) == len(frequencies) == len(scores) == 3600:
+        return [1] + [0] * 7, scores
+    if not 1 <= capacity <= 100000:
+        return [2] + [0] * 7, scores
+    if not all(map(is_price, (clearing, performance, discharge, charge))):
+        return [3] + [0] * 7, scores
+    if not bands_fit(thresholds, factors):
+        return [5] + [0] * 7, scores
+    if max(map(abs, targets)) > 100000:
+        return [10] + [0] * 7, scores
+    if max(map(abs, powers)) > 200000 or min(frequencies) < 55000 or max(frequencies) > 65000:
+        return [4] + [0] * 7, scores
+    plan = transfers(targets)
+    scores = [score(p, t, capacity, f) for p, t, f in zip(powers, plan, frequencies)]
+    r = min(rolling(scores))
+    tenths = factor(thresholds, factors, r)[1]
+    first, second = fee(clearing, capacity)[1], fee(performance, capacity)[1]
+    part = quality(first, second, tenths)[1]
+    service = energy(powers, targets[1:], discharge, charge)[1]
+    return [0, r, tenths, first, second, part, service, part + service], scores
+
+
+THRESHOLDS, FACTORS = [t for t, _ in LIST_S], [f for _, f in LIST_S]
+
+
+def terms_of(targets):
+    return 10000, 43000, 35000, 200000, 50000, targets
+
+
+def work(label, powers, frequencies, terms, thresholds=THRESHOLDS, factors=FACTORS, places=3600):
+    s, scores = hour(powers, frequencies, [7] * places, terms, thresholds, factors)
+    line(label, *s, mixed(scores))
+    return s
+
+
+def dreg(label, powers, frequencies):
+    return work(label, powers, frequencies, (10000, 43000, 35000, 0, 0, [0] * 5))
+
+
+def level(label, power, f):
+    return dreg(label, [power] * 3600, [f] * 3600)
+
+
+line("dReg hours")
+assert level("steady", 3500, 59900)[1] == 100
+for label, start, stop, r in [
+    ("a stumble of three seconds", 1000, 1003, 100),
+    ("a stumble of four", 1000, 1004, 93),
+    ("four first", 0, 4, 93),
+    ("four last", 3596, 3600, 93),
+]:
+    assert dreg(label, but(3500, start, stop, 4500), [59900] * 3600)[1] == r
+for label, start in [("in its place", 1000), ("a second late", 1001)]:
+    dreg(label, but(0, 1000, 1004, 10000), but(60000, start, 1004, 59750))
+turns = [59750, 60250] * 1800
+assert dreg("alternating", [10000, -10000] * 1800, turns)[1] == 100
+assert dreg("alternating, a second late", [-10000, 10000] * 1800, turns)[1] == 0
+level("tie 59,920 above", 3100, 59920)
+level("tie 59,920 past", 3200, 59920)
+level("tie 59,920 below", 2100, 59920)
+level("tie 60,080 above", -2200, 60080)
+level("tie 60,080 past", -2100, 60080)
+level("tie 60,080 below", -3200, 60080)
+level("most power", 200000, 55000)
+level("least power", -200000, 65000)
+level("a power above", 200001, 60000)
+level("a power below", -200001, 60000)
+level("a frequency below", 0, 54999)
+
+line("E-dReg hours")
+charging = [0, -3000, -4000, -2001, -5000]
+discharging = [-3000, 3000, 4000, 2001, 5000]
+both = [100, 4000, -4000, 0, 7]
+still = [60000] * 3600
+wavering = [59700 + i * 37 % 601 for i in range(3600)]
+for label, frequencies, followed, plan in [
+    ("charging", still, charging, charging),
+    ("discharging", still, discharging, discharging),
+    ("both", still, both, both),
+    ("another plan", still, charging, both),
+    ("no plan", still, both, [0] * 5),
+    ("wavering", wavering, discharging, discharging),
+    ("wavering, another plan", wavering, both, discharging),
+]:
+    work(label, transfers(followed), frequencies, terms_of(plan))
+
+for label, power, f, target in [
+    ("most", 200000, 55000, 10**5),
+    ("most, the other way", 200000, 55000, -(10**5)),
+    ("least", -200000, 65000, -(10**5)),
+    ("least, the other way", -200000, 65000, 10**5),
+]:
+    work(label, [power] * 3600, [f] * 3600, (10**5, 10**7, 10**7, 10**7, 10**7, [target] * 5))
+
+line("refused hours: 1, 2, 3, 5, 10, 4 in this order")
+
+
+def attempt(label, k, powers, frequencies, capacity, charge, tenths, target, places=3600):
+    terms = capacity, 43000, 35000, 200000, charge, [0, 0, 0, 0, target]
+    assert work(label, powers, frequencies, terms, [95, 0], [tenths, -10], places)[0] == k
+
+
+zeros, short = [0] * 3600, [200001] * 3599
+high = but(0, 3599, 3600, 200001)
+attempt("none", 0, zeros, still, 10000, 50000, 10, 0)
+attempt("at the limits", 0, zeros, still, 100000, 10**7, -240, -100000)
+attempt("least factor", 0, zeros, still, 10000, 50000, -240, 0)
+attempt("least capacity", 0, zeros, still, 1, 0, 10, 100000)
+attempt("capacity 0", 2, zeros, still, 0, 50000, 10, 0)
+attempt("capacity above", 2, zeros, still, 100001, 50000, 10, 0)
+attempt("price above", 3, zeros, still, 10000, 10**7 + 1, 10, 0)
+attempt("price below", 3, zeros, still, 10000, -1, 10, 0)
+attempt("factor 11", 5, zeros, still, 10000, 50000, 11, 0)
+attempt("target above", 10, zeros, still, 10000, 50000, 10, 100001)
+attempt("target below", 10, zeros, still, 10000, 50000, 10, -100001)
+attempt("3,599 scores", 1, zeros, still, 10000, 50000, 10, 0, places=3599)
+attempt("a power above", 4, high, still, 10000, 50000, 10, 0)
+attempt("and a target", 10, high, still, 10000, 50000, 10, 100001)
+attempt("and a factor", 5, high, still, 10000, 50000, 11, 100001)
+attempt("and a price", 3, high, still, 10000, -1, 11, 100001)
+attempt("and the capacity", 2, high, still, 0, -1, 11, 100001)
+attempt("i64", 2, high, still, LEAST, MOST, LEAST, MOST)
+attempt("3,599 powers", 1, short, still, 0, -1, 11, 100001)
+attempt("3,599 frequencies", 1, high, short, 0, -1, 11, 100001)
+attempt("neither", 1, short, short, 10000, 50000, 10, 0)
+
+
+# ---- the joint call
+
+line("joint calls")
+
+
+def join(label, k, powers, target, m, d, h):
+    s, _ = hour(powers, still, zeros, terms_of([0, 0, 0, 0, target]), THRESHOLDS, FACTORS)
+    if s[0] == 0:
+        s[0], m = m.post(d, h, s[7])
+        s = s if s[0] == 0 else [s[0]] + [0] * 7
+    assert s[0] == k
+    line(label, *s, *m.hour(d, h), *m.total(), *m.standing())
+    return m
+
+
+_, m = opened(30)
+m = join("posted", 0, zeros, 0, m, 3, 10)
+m = join("place filled", 7, zeros, 0, m, 3, 10)
+m = join("day 31", 6, zeros, 0, m, 31, 10)
+m = join("hour 24", 6, zeros, 0, m, 3, 24)
+m = join("a target above, place filled", 10, zeros, 100001, m, 3, 10)
+some = but(0, 2700, 3600, 900)
+m = join("another hour", 0, some, 5, m, 3, 11)
+_, m = m.withdraw(3, 10)
+m = join("posted again", 0, some, -5, m, 3, 10)
+_, m = m.close()
+join("closed", 9, some, 0, m, 3, 12)
+join("closed, day 0", 9, some, 0, m, 0, 12)
+join("no month", 22, some, 0, opened(27)[1], 3, 12)
+join("a ledger that no run of calls hands back", 22, some, 0, Ledger(30, forged=True), 3, 12)
+join("closed, a power below", 4, [-200001] + some[1:], 0, m, 3, 12)

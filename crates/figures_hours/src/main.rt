@@ -1,0 +1,23 @@
+// Runs the papers' figures of whole hours: their fees, months of them, hours by their readings, joint calls. crates/figures_hours/stdout has what the papers print.
+mod fees_cases;
+mod hour_cases;
+mod joint_cases;
+mod month_cases;
+mod readings;
+mod refused_cases;
+mod text;
+
+fn main() {
+    fees_cases::of_capacity();
+    fees_cases::quality_parts();
+    fees_cases::of_energy();
+    fees_cases::of_losses();
+    fees_cases::refused_losses();
+    month_cases::march();
+    month_cases::april();
+    month_cases::january();
+    hour_cases::dreg_hours();
+    hour_cases::shift_hours();
+    refused_cases::hours();
+    joint_cases::joint();
+}

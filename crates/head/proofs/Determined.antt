@@ -1,0 +1,28 @@
+-- Answers that meet a public function's contract are equal: the contracts are equations. Assumes nothing.
+use mathlib.Core.Path.{sym, _∙_}
+use Rattle.whole.specs.Determined.{Determined}
+use Rattle.head.proofs.place_of.Reads as place-of-reads
+use Rattle.head.proofs.place_of.Kinds as place-of-kinds
+use Rattle.head.proofs.«open».Reads as open-reads
+use Rattle.head.proofs.«open».Kinds as open-kinds
+use Rattle.head.proofs.fits.Reads as fits-reads
+use Rattle.head.proofs.fits.Kinds as fits-kinds
+use Rattle.head.proofs.loss_fee.Reads as loss-fee-reads
+use Rattle.head.proofs.loss_fee.Kinds as loss-fee-kinds
+use Rattle.head.proofs.close.Reads as close-reads
+use Rattle.head.proofs.close.Kinds as close-kinds
+
+place-of-determined : Determined 0 place-of-kinds.ps place-of-kinds.r place-of-reads.Post
+place-of-determined κs a x y s t p q = p ∙ sym q
+
+open-determined : Determined 0 open-kinds.ps open-kinds.r open-reads.Post
+open-determined κs a x y s t p q = p ∙ sym q
+
+fits-determined : Determined 0 fits-kinds.ps fits-kinds.r fits-reads.Post
+fits-determined κs a x y s t p q = p ∙ sym q
+
+loss-fee-determined : Determined 0 loss-fee-kinds.ps loss-fee-kinds.r loss-fee-reads.Post
+loss-fee-determined κs a x y s t p q = p ∙ sym q
+
+close-determined : Determined 0 close-kinds.ps close-kinds.r close-reads.Post
+close-determined κs a x y s t p q = p ∙ sym q

@@ -1,0 +1,20 @@
+-- `head::fits` meets its contract: its two tests are the definition's. Assumes nothing.
+use Prim.Native.Nat.{ℕ}
+use mathlib.Core.Path.{ap, ap₂}
+use mathlib.Core.Bool.{_&&_}
+use lib.Dec.{eqb}
+use borrow.Author.Needs.{needs}
+use Rattle.head.proofs.fits.Statement.{statement}
+use Rattle.head.proofs.fits.Tie as tie
+
+is-days-requires : tie.Need-is-days-requires
+is-days-requires c κs = search needs
+
+fee-refusal-requires : tie.Need-fee-refusal-requires
+fee-refusal-requires c κs = search needs
+
+returns : tie.Need-returns
+returns c = ap₂ _&&_ (c .before .is-days .ensures) (ap (λ (k : ℕ). eqb k 0) (c .fee-refusal .ensures))
+
+pub fits-spec : {M : Type 1} → statement M
+fits-spec = tie.close (tie.spec is-days-requires fee-refusal-requires returns)

@@ -1,0 +1,53 @@
+-- The month ledger's rules (document 01, "The ledger"), as an instance of the rules of any ledger.
+use Prim.Native.Nat.{ℕ}
+use mathlib.Core.Bool.{Bool, true, false}
+use mathlib.Core.List.{[], _∷_}
+use lib.Dec.{eqb}
+use lib.IntN.{ℤ, pos, natAbs}
+use Rattle.whole.specs.Choice.{unless}
+use Rattle.units.specs.Limits.{isDays, hoursOfDay, monthPlaces, isAmount, isLossFee}
+use Rattle.units.specs.Refusals.{badMoney}
+use Rattle.history.specs.Rules.{Rules}
+
+-- "ledger amount outside -10^9 to 10^9"
+abbrev pub amountRefusal : ℤ → ℕ
+amountRefusal amount = unless (isAmount amount) badMoney 0
+
+-- "loss fee outside 0 to 10^11"
+abbrev pub lossFeeRefusal : ℤ → ℕ
+lossFeeRefusal fee = unless (isLossFee fee) badMoney 0
+
+-- which loss fee: there is one
+abbrev pub Fee : Type 0
+Fee = Unit {0}
+
+-- what stands at an hour: the mark that it is filled, and an amount
+abbrev pub Item : Type 0
+Item = Bool × ℤ
+
+-- an amount that is handed in
+abbrev pub amountItem : ℤ → Item
+amountItem amount = (true, amount)
+
+-- "A month of 28 to 31 days"; "has 744 hour places, all empty at the start"; "hours are 0 to 23"
+abbrev pub monthRules : ℕ → Rules Fee Bool ℤ
+monthRules days =
+    record {
+      opens = isDays days;
+      days = days;
+      hoursOf = λ _. hoursOfDay;
+      places = monthPlaces;
+      blank = (false, pos 0);
+      isBlank = λ item. eqb (natAbs (item .1)) 0;
+      filled = λ mark. mark;
+      check = λ item. amountRefusal (item .1);
+      enter = λ item. (true, item .1);
+      fits = λ item. eqb (amountRefusal (item .1)) 0;
+      worth = λ item. item .1;
+      fees = tt ∷ [];
+      sameFee = λ _ _. true;
+      checkFee = λ _. lossFeeRefusal;
+      parts = 1;
+      checkPart = λ _. 0;
+      part = λ _ item. item .1;
+    }

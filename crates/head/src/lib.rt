@@ -1,0 +1,148 @@
+// The month ledger's head, by value: what a month is beside its places. Its calls touch no place; an hour's place is worked out here, and nowhere else.
+ghost use Prim.Native.Nat.{_-_};
+ghost use mathlib.Core.Path.{_≡_};
+ghost use Rattle.units.specs.Limits.{isDays, hoursOfDay};
+ghost use Rattle.history.specs.Rules.{Call, hoursTo};
+ghost use Rattle.head.specs.Rules.{lossFeeRefusal};
+ghost use Rattle.head.specs.Head.{placeOf, freshHead, openedHead, headFits, headedOf};
+use units::Dollars;
+use units::limits;
+use units::refusals;
+
+// A month without its places.
+pub struct Head {
+    pub days: u8,
+    pub closed: bool,
+    pub fee: Dollars,
+}
+
+// What a call on the head answers: its refusal, and the head that it hands back.
+pub struct Headed {
+    pub refusal: u8,
+    pub head: Head,
+}
+
+// An hour's place, and whether the hour is inside the month.
+pub struct Place {
+    pub inside: bool,
+    pub at: usize,
+}
+
+fn is_days(days: u8) -> bool
+    ensures { λ r. ⌜ r ≡ isDays days ⌝ }
+{
+    (limits::LEAST_DAYS <= days) & (days <= limits::MOST_DAYS)
+}
+
+fn fee_refusal(fee: Dollars) -> u8
+    ensures { λ r. ⌜ r ≡ lossFeeRefusal (fee .0) ⌝ }
+{
+    let a = fee.0;
+    whole::unless(
+        whole::within(a, 0, limits::LOSS_FEE),
+        refusals::BAD_MONEY,
+        0,
+    )
+}
+
+// The hours of the days before a day.
+fn hours_before(day: u8) -> usize
+    ensures { λ r. ⌜ r ≡ hoursTo (λ _. hoursOfDay) (day - 1) ⌝ }
+{
+    if day == 0 {
+        return 0;
+    }
+    (day as usize - 1) * limits::HOURS
+}
+
+// The place of an hour of a day, in a month of that many days.
+pub fn place_of(days: u8, day: u8, hour: u8) -> Place
+    ensures { λ r. ⌜ r ≡ placeOf days day hour ⌝ }
+{
+    let at = hour as usize;
+    Place {
+        inside: (1 <= day) & (day <= days) & (at < limits::HOURS),
+        at: hours_before(day) + at,
+    }
+}
+
+// The head of a fresh month of 28 to 31 days.
+pub fn open(days: u8) -> Headed
+    ensures { λ r. ⌜ r ≡ openedHead days ⌝ }
+{
+    if is_days(days) {
+        return Headed {
+            refusal: 0,
+            head: fresh(days),
+        };
+    }
+    Headed {
+        refusal: refusals::NOT_IN_MONTH,
+        head: fresh(0),
+    }
+}
+
+fn fresh(days: u8) -> Head
+    ensures { λ r. ⌜ r ≡ freshHead days ⌝ }
+{
+    Head {
+        days: days,
+        closed: false,
+        fee: Dollars(0),
+    }
+}
+
+// What a head shows of refusal 22: its days and its fee.
+pub fn fits(head: Head) -> bool
+    ensures { λ r. ⌜ r ≡ headFits head ⌝ }
+{
+    let fee = head.fee;
+    is_days(head.days) & (fee_refusal(fee) == 0)
+}
+
+// Sets the loss fee, which replaces the former.
+pub fn loss_fee(head: Head, amount: Dollars) -> Headed
+    ensures { λ r. ⌜ r ≡ headedOf head (Call.lossFee tt (amount .0)) ⌝ }
+{
+    let open = whole::unless(!head.closed, refusals::MONTH_CLOSED, fee_refusal(amount));
+    let k = whole::unless(fits(head), refusals::NOT_REACHABLE, open);
+    if k == 0 {
+        let next = Head {
+            days: head.days,
+            closed: head.closed,
+            fee: amount,
+        };
+        return Headed {
+            refusal: k,
+            head: next,
+        };
+    }
+    Headed {
+        refusal: k,
+        head: head,
+    }
+}
+
+// Closes the month.
+pub fn close(head: Head) -> Headed
+    ensures { λ r. ⌜ r ≡ headedOf head Call.close ⌝ }
+{
+    let open = whole::unless(!head.closed, refusals::MONTH_CLOSED, 0);
+    let k = whole::unless(fits(head), refusals::NOT_REACHABLE, open);
+    if k == 0 {
+        let fee = head.fee;
+        let next = Head {
+            days: head.days,
+            closed: true,
+            fee: fee,
+        };
+        return Headed {
+            refusal: k,
+            head: next,
+        };
+    }
+    Headed {
+        refusal: k,
+        head: head,
+    }
+}

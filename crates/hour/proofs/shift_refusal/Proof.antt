@@ -1,0 +1,33 @@
+-- `hour::shift_refusal` meets its contract: that of `refusal`, with the two tests of what is shifted. Assumes nothing.
+use mir.Syntax.{w64}
+use mir.Val.{SFits}
+use mir.Facts.{toZ-ofZ}
+use borrow.Author.Needs.{needs}
+use Rattle.hour.proofs.shift_refusal.Statement.{statement}
+use Rattle.hour.proofs.shift_refusal.Tie as tie
+
+prices-fit-requires : tie.Need-prices-fit-requires
+prices-fit-requires c κs = search needs
+
+all-within-requires : tie.Need-all-within-requires
+all-within-requires c κs = search needs
+
+refusal-requires : tie.Need-refusal-requires
+refusal-requires c κs = search needs
+
+discharge-fits : (c : tie.After-struct-told2) → SFits w64 (c .before .before .args .t5 .discharge)
+discharge-fits c = search needs
+
+charge-fits : (c : tie.After-struct-told2) → SFits w64 (c .before .before .args .t5 .charge)
+charge-fits c = search needs
+
+returns : tie.Need-returns
+returns c =
+    let planned = c .before in
+    let priced = planned .before .before .before .before in
+    let s = priced .before in
+    rw (rw (toZ-ofZ (discharge-fits s), toZ-ofZ (charge-fits s)) at (priced .prices-fit .ensures), planned .all-within .ensures) at (c .refusal .ensures)
+
+pub shift-refusal-spec : {M : Type 1} → statement M
+shift-refusal-spec =
+    tie.close (tie.spec prices-fit-requires all-within-requires refusal-requires returns)

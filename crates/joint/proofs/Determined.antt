@@ -1,0 +1,8 @@
+-- Answers that meet a public function's contract are equal: the contract is one equation. Assumes nothing.
+use mathlib.Core.Path.{sym, _∙_}
+use Rattle.whole.specs.Determined.{Determined}
+use Rattle.joint.proofs.joint.Reads as joint-reads
+use Rattle.joint.proofs.joint.Kinds as joint-kinds
+
+joint-determined : Determined 4 joint-kinds.ps joint-kinds.r joint-reads.Post
+joint-determined κs a x y s t p q = p ∙ sym q

@@ -1,0 +1,3 @@
+-- The joint call, and runs of calls with it.
+pub mod Joint
+pub mod Runs

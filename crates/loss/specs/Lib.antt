@@ -1,0 +1,2 @@
+-- The loss fee.
+pub mod Loss

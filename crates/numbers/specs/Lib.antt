@@ -1,0 +1,3 @@
+-- A question's numbers.
+pub mod Numbers
+pub mod Shapes

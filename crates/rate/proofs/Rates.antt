@@ -1,0 +1,173 @@
+-- What an hour's rate is, for the crates above: at most 100 whatever was handed in, and the smallest rolling rate where it is not refused. The
+-- rolling rates are those of one pass that carries three scores, a missing one as 0; by induction on the scores. Assumes nothing.
+use Prim.Native.Nat.{ℕ, zero, suc, _+_, _≤_, _<_, min, max, zero-le}
+use mathlib.Core.Path.{_≡_, refl, sym, ap, _∙_}
+use mathlib.Core.Bool.{true, false}
+use mathlib.Core.List.{List, [], _∷_, map, reverse}
+use native.Mathlib.Nat.{max-zero, not-suc-le-zero}
+use native.Mathlib.Omega.{arith}
+use lib.Dec.{eqb}
+use lib.ListN.{length, take, getD}
+use borrow.Author.Tests.{eqb-true, eq-eqb, leb-true, le-leb}
+use Rattle.whole.proofs.Choice.{by-test, all-passed}
+use Rattle.whole.proofs.Folds.{all-at, all-of}
+use Rattle.units.specs.Refusals.{wrongLength, badReading}
+use Rattle.units.specs.Limits.{mostScore, secondsOfHour}
+use Rattle.rate.specs.Rolling.{windows, largest, smallest, smallestFrom, rolling, isScoreAt, areScores, scoresRefusal, hourlyRate, carried, rateAfter}
+use Rattle.rate.specs.declared.Rated.{Rated}
+
+-- ---- one pass finds the rolling rates
+
+four : (x : ℕ) (back : List ℕ) → largest (take 4 (x ∷ back)) ≡ max x (max (getD back 0 0) (max (getD back 1 0) (getD back 2 0)))
+four x [] = refl
+four x (a ∷ []) = refl
+four x (a ∷ b ∷ []) = refl
+four x (a ∷ b ∷ c ∷ back) = rw max-zero
+
+pass : (back xs : List ℕ) → map largest (windows back xs) ≡ carried (getD back 0 0) (getD back 1 0) (getD back 2 0) xs
+pass back [] = refl
+pass back (x ∷ xs) = rw (four x back, pass (x ∷ back) xs)
+
+pub rolling-carried : (earlier scores : List ℕ) → rolling earlier scores
+    ≡ carried (getD (reverse earlier) 0 0) (getD (reverse earlier) 1 0) (getD (reverse earlier) 2 0) scores
+unfolding rolling
+rolling-carried earlier scores = pass (reverse earlier) scores
+
+-- the rolling rate of second t is the largest score of seconds t-3 to t, from the hour's fourth second on
+fourth : (a b c : ℕ) (xs : List ℕ) (t : ℕ) → suc (suc (suc t)) < length xs
+    → getD (carried a b c xs) (suc (suc (suc t))) 0 ≡ max (getD xs (suc (suc (suc t))) 0) (max (getD xs (suc (suc t)) 0) (max (getD xs (suc t) 0) (getD xs t 0)))
+fourth a b c [] t h = absurd (not-suc-le-zero h)
+fourth a b c (x ∷ []) t h = absurd (omega arith)
+fourth a b c (x ∷ y ∷ []) t h = absurd (omega arith)
+fourth a b c (x ∷ y ∷ z ∷ []) t h = absurd (omega arith)
+fourth a b c (x ∷ y ∷ z ∷ w ∷ xs) zero h = refl
+fourth a b c (x ∷ y ∷ z ∷ w ∷ xs) (suc t) h = fourth x a b (y ∷ z ∷ w ∷ xs) t (omega arith)
+
+pub rolling-at : (earlier scores : List ℕ) (t : ℕ) → t + 3 < length scores
+    → getD (rolling earlier scores) (t + 3) 0 ≡ max (getD scores (t + 3) 0) (max (getD scores (t + 2) 0) (max (getD scores (t + 1) 0) (getD scores t 0)))
+rolling-at earlier scores t h =
+    let three : t + 3 ≡ suc (suc (suc t)) = omega arith in
+    let two : t + 2 ≡ suc (suc t) = omega arith in
+    let one : t + 1 ≡ suc t = omega arith in
+    rw (rolling-carried earlier scores, three, two, one) (fourth _ _ _ scores t (omega arith))
+
+-- "The windows of seconds 1, 2 and 3 hold only this hour's seconds": the rolling rates of an hour that begins with the scores x₁ x₂ x₃
+pub record Windows (x₁ x₂ x₃ : ℕ) (scores : List ℕ) : Type 0 where
+  pub second-1 : getD (rolling [] scores) 0 0 ≡ x₁
+  pub second-2 : getD (rolling [] scores) 1 0 ≡ max x₁ x₂
+  pub second-3 : getD (rolling [] scores) 2 0 ≡ max x₁ (max x₂ x₃)
+  pub from-4 : (t : ℕ) → t + 3 < length scores
+      → getD (rolling [] scores) (t + 3) 0 ≡ max (getD scores (t + 3) 0) (max (getD scores (t + 2) 0) (max (getD scores (t + 1) 0) (getD scores t 0)))
+
+pub hour-windows : (x₁ x₂ x₃ : ℕ) (later : List ℕ) → Windows x₁ x₂ x₃ (x₁ ∷ x₂ ∷ x₃ ∷ later)
+hour-windows x₁ x₂ x₃ later =
+    let scores = x₁ ∷ x₂ ∷ x₃ ∷ later in
+    record {
+      second-1 = rw (rolling-carried [] scores) (omega arith);
+      second-2 = rw (rolling-carried [] scores) (omega arith);
+      second-3 = rw (rolling-carried [] scores) (omega arith);
+      from-4 = rolling-at [] scores;
+    }
+
+pub length-rolling : (earlier scores : List ℕ) → length (rolling earlier scores) ≡ length scores
+length-rolling earlier scores = rw (rolling-carried earlier scores) (as-many _ _ _ scores)
+  where
+    as-many : (a b c : ℕ) (xs : List ℕ) → length (carried a b c xs) ≡ length xs
+    as-many a b c [] = refl
+    as-many a b c (x ∷ xs) = ap suc (as-many x a b xs)
+
+-- ---- the smallest of a list is: none is less, and what is at most each of them is at most it
+
+smallest-le : (m : ℕ) (xs : List ℕ) → smallestFrom m xs ≤ m
+smallest-le m [] = omega arith
+smallest-le m (x ∷ xs) = omega (arith, smallest-le (min m x) xs)
+
+least : (m : ℕ) (xs : List ℕ) (i : ℕ) → i < length xs → smallestFrom m xs ≤ getD xs i 0
+least m [] i h = absurd (not-suc-le-zero h)
+least m (x ∷ xs) zero h = omega (arith, smallest-le (min m x) xs)
+least m (x ∷ xs) (suc i) h = least (min m x) xs i (omega arith)
+
+pub smallest-least : (xs : List ℕ) (i : ℕ) → i < length xs → smallest xs ≤ getD xs i 0
+smallest-least [] i h = absurd (not-suc-le-zero h)
+smallest-least (x ∷ xs) zero h = smallest-le x xs
+smallest-least (x ∷ xs) (suc i) h = least x xs i (omega arith)
+
+most : (k m : ℕ) (xs : List ℕ) → k ≤ m → ((i : ℕ) → i < length xs → k ≤ getD xs i 0) → k ≤ smallestFrom m xs
+most k m [] h f = h
+most k m (x ∷ xs) h f = most k (min m x) xs (omega (arith, f 0 (omega arith))) (λ i l. f (suc i) (omega arith))
+
+pub smallest-most : (k : ℕ) (xs : List ℕ) → 0 < length xs → ((i : ℕ) → i < length xs → k ≤ getD xs i 0) → k ≤ smallest xs
+smallest-most k [] h f = absurd (not-suc-le-zero h)
+smallest-most k (x ∷ xs) h f = most k x xs (f 0 (omega arith)) (λ i l. f (suc i) (omega arith))
+
+-- ---- each score is at most 100, and so a pass may begin at 100
+
+pub score-at : (scores : List ℕ) (i : ℕ) → areScores scores ≡ true → i < length scores → getD scores i 0 ≤ mostScore
+unfolding areScores
+score-at scores i e h = leb-true _ mostScore (all-at (length scores) (isScoreAt scores) e i h)
+
+pub are-scores : (scores : List ℕ) → ((i : ℕ) → i < length scores → getD scores i 0 ≤ mostScore) → areScores scores ≡ true
+unfolding areScores
+are-scores scores h = all-of (length scores) (isScoreAt scores) (λ i l. le-leb (getD scores i 0) mostScore (h i l))
+
+pub from-100 : (a b c : ℕ) (scores : List ℕ) → a ≤ mostScore → b ≤ mostScore → c ≤ mostScore → 0 < length scores → areScores scores ≡ true
+    → smallestFrom mostScore (carried a b c scores) ≡ smallest (carried a b c scores)
+from-100 a b c [] ha hb hc l e = absurd (not-suc-le-zero l)
+from-100 a b c (x ∷ xs) ha hb hc l e =
+    let hx : x ≤ mostScore = score-at (x ∷ xs) 0 e l in
+    let same : min mostScore (max x (max a (max b c))) ≡ max x (max a (max b c)) = omega arith in
+    ap (λ (m : ℕ). smallestFrom m (carried x a b xs)) same
+
+-- ---- the hourly rate
+
+pub record Fit (scores : List ℕ) : Type 0 where
+  pub long : length scores ≡ secondsOfHour
+  pub small : areScores scores ≡ true
+
+module _ (scores : List ℕ) where
+  pub scores-fit : scoresRefusal scores ≡ 0 → Fit scores
+  unfolding scoresRefusal
+  scores-fit e =
+      let p = all-passed ((eqb (length scores) secondsOfHour, wrongLength) ∷ (areScores scores, badReading) ∷ []) refl e in
+      record { long = eqb-true (length scores) secondsOfHour (p .0); small = p .1 .0 }
+
+  pub fit-scores : Fit scores → scoresRefusal scores ≡ 0
+  unfolding scoresRefusal
+  fit-scores f = rw (eq-eqb (length scores) secondsOfHour (f .long), f .small)
+
+  -- the smallest rolling rate, as one pass finds it
+  pub rate-carried : Fit scores → smallestFrom mostScore (carried 0 0 0 scores) ≡ smallest (rolling [] scores)
+  rate-carried f =
+      let l = f .long in
+      rw (rolling-carried [] scores) (from-100 0 0 0 scores zero-le zero-le zero-le (omega arith) (f .small))
+
+  pub rate-granted : Fit scores → hourlyRate scores ≡ record { refusal = 0; rate = smallest (rolling [] scores) }
+  unfolding hourlyRate
+  rate-granted f = rw (eq-eqb _ 0 (fit-scores f))
+
+  pub rate-refusal : hourlyRate scores .refusal ≡ scoresRefusal scores
+  unfolding hourlyRate
+  rate-refusal =
+      by-test (eqb (scoresRefusal scores) 0)
+      (λ (t : eqb (scoresRefusal scores) 0 ≡ true). rw t (sym (eqb-true (scoresRefusal scores) 0 t)))
+      (λ (t : eqb (scoresRefusal scores) 0 ≡ false). rw t)
+
+  pub rate-is : hourlyRate scores .refusal ≡ 0 → hourlyRate scores .rate ≡ smallest (rolling [] scores)
+  rate-is e = ap (λ (r : Rated). r .rate) (rate-granted (scores-fit (sym rate-refusal ∙ e)))
+
+  pub rate-within : hourlyRate scores .rate ≤ mostScore
+  unfolding hourlyRate
+  rate-within =
+      by-test (eqb (scoresRefusal scores) 0)
+      (λ (t : eqb (scoresRefusal scores) 0 ≡ true).
+      let e = rate-carried (scores-fit (eqb-true (scoresRefusal scores) 0 t)) in
+      rw (t, sym e) (smallest-le mostScore (carried 0 0 0 scores)))
+      (λ (t : eqb (scoresRefusal scores) 0 ≡ false). rw t (omega arith))
+
+  -- what one pass answers for an hour's scores, fit or not
+  pub rate-after-is : length scores ≡ secondsOfHour → rateAfter 0 0 0 scores ≡ hourlyRate scores
+  unfolding rateAfter hourlyRate scoresRefusal
+  rate-after-is long =
+      by-test (areScores scores)
+      (λ (t : areScores scores ≡ true). rw (t, eq-eqb (length scores) secondsOfHour long, rate-carried (record { long = long; small = t })))
+      (λ (t : areScores scores ≡ false). rw (t, eq-eqb (length scores) secondsOfHour long))

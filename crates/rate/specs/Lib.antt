@@ -1,0 +1,2 @@
+-- An hour's rate by its scores.
+pub mod Rolling

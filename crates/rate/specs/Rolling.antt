@@ -1,0 +1,61 @@
+-- Document 01, "an hour's rate" (document 001, section 2.3): rolling rates and the hourly rate.
+use Prim.Native.Nat.{ℕ, min, max}
+use mathlib.Core.Bool.{Bool}
+use mathlib.Core.List.{List, [], _∷_, map, reverse}
+use lib.Dec.{eqb, leb}
+use lib.ListN.{length, take, getD}
+use Rattle.whole.specs.Choice.{pick, inOrder}
+use Rattle.whole.specs.Folds.{allTo}
+use Rattle.units.specs.Refusals.{wrongLength, badReading}
+use Rattle.units.specs.Limits.{mostScore, secondsOfHour}
+use Rattle.rate.specs.declared.Rated.{Rated}
+
+-- the window of each second: its score and the three before it, newest first, as many as there are. `back` is what came before, newest first.
+abbrev pub windows : List ℕ → List ℕ → List (List ℕ)
+windows back [] = []
+windows back (x ∷ xs) = take 4 (x ∷ back) ∷ windows (x ∷ back) xs
+
+abbrev pub largest : List ℕ → ℕ
+largest [] = 0
+largest (x ∷ xs) = max x (largest xs)
+
+-- the smallest of m and the list
+abbrev pub smallestFrom : ℕ → List ℕ → ℕ
+smallestFrom m [] = m
+smallestFrom m (x ∷ xs) = smallestFrom (min m x) xs
+
+abbrev pub smallest : List ℕ → ℕ
+smallest [] = 0
+smallest (x ∷ xs) = smallestFrom x xs
+
+-- the rolling rates, after the scores of the seconds before the hour; in the base there are none of those
+unfoldable pub rolling : List ℕ → List ℕ → List ℕ
+rolling earlier scores = map largest (windows (reverse earlier) scores)
+
+-- a score handed in is one
+abbrev pub isScoreAt : List ℕ → ℕ → Bool
+isScoreAt scores i = leb (getD scores i 0) mostScore
+
+unfoldable pub areScores : List ℕ → Bool
+areScores scores = allTo (length scores) (isScoreAt scores)
+
+-- 1, 4
+unfoldable pub scoresRefusal : List ℕ → ℕ
+scoresRefusal scores = inOrder ((eqb (length scores) secondsOfHour, wrongLength) ∷ (areScores scores, badReading) ∷ [])
+
+-- the smallest of the 3,600 rolling rates
+unfoldable pub hourlyRate : List ℕ → Rated
+hourlyRate scores =
+    let k = scoresRefusal scores in
+    pick (eqb k 0) (record { refusal = 0; rate = smallest (rolling [] scores) }) (record { refusal = k; rate = 0 })
+
+-- the rolling rates as one pass finds them, from the last three scores alone, newest first, a missing one as 0
+abbrev pub carried : ℕ → ℕ → ℕ → List ℕ → List ℕ
+carried a b c [] = []
+carried a b c (x ∷ xs) = max x (max a (max b c)) ∷ carried x a b xs
+
+unfoldable pub rateAfter : ℕ → ℕ → ℕ → List ℕ → Rated
+rateAfter last second third scores =
+    pick (areScores scores)
+    (record { refusal = 0; rate = smallestFrom mostScore (carried last second third scores) })
+    (record { refusal = badReading; rate = 0 })

@@ -1,0 +1,5 @@
+-- What belongs to no one function.
+mod Gathering
+mod Lent
+mod Determined
+mod RefusedKeeps

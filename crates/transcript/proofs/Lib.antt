@@ -1,0 +1,10 @@
+-- The theorems about the program `desk`.
+mod Samples
+pub mod Cutting
+mod Places
+mod Growing
+pub mod Written
+pub mod Separators
+pub mod Replying
+pub mod Printing
+pub mod Posting

@@ -1,0 +1,40 @@
+-- The line of `dreg_frame` and `edreg_frame`: the post of the hour that was asked; and `desk | ledger`: what the ledger's program answers to that line.
+use Prim.Native.Nat.{ℕ}
+use mathlib.Core.Path.{_≡_}
+use mathlib.Core.Bool.{true}
+use mathlib.Core.List.{List, _++_}
+use lib.IntN.{ℤ, pos}
+use Rattle.history.specs.Rules.{Call}
+use Rattle.frame.specs.Kinds.{postKind}
+use Rattle.frame.specs.Frame.{readingOf, lineOf}
+use Rattle.frame.specs.declared.Entry.{Entry}
+use Rattle.frame.specs.declared.Reading.the-variants.{Frame}
+use Rattle.book.specs.Book.{Book, callRefusal, callBook, readingRefusal, bookIn}
+use Rattle.numbers.specs.Numbers.{number}
+use Rattle.words.specs.declared.Hour as words
+use Rattle.numbers.specs.declared.Places.{Places}
+use Rattle.hours.specs.Hours.{Basis, settlement}
+use Rattle.question.specs.Frames.{hourFramed, hourFrame}
+use Rattle.question.specs.Lines.{endOfLine, frameText}
+
+-- a post of an hour
+abbrev pub posting : ℕ → ℕ → Basis → Entry
+posting day hour h = record { kind = postKind; day = day; hour = hour; amount = settlement h .amount }
+
+-- the line posts the hour that was asked, and reads back as that post
+pub record Posts (asks : words.Hour) (n : List ℤ) (places : Places) (day hour : ℕ) : Type 0 where
+  pub accepted : settlement (hourFramed asks n places) .refusal ≡ 0
+  pub day-asked : pos day ≡ number n 0
+  pub hour-asked : pos hour ≡ number n 1
+  pub text : frameText (hourFrame asks n places) ≡ lineOf (posting day hour (hourFramed asks n places)) ++ endOfLine
+  pub reads : readingOf (lineOf (posting day hour (hourFramed asks n places))) ≡ Frame (posting day hour (hourFramed asks n places))
+
+-- ---- `desk | ledger`
+
+-- what the ledger's program answers to it, and keeps
+pub record Piped (asks : words.Hour) (n : List ℤ) (places : Places) (book : Book) (day hour : ℕ) : Type 0 where
+  pub posted : Posts asks n places day hour
+  pub answered : readingRefusal book (readingOf (lineOf (posting day hour (hourFramed asks n places))))
+      ≡ callRefusal book (Call.post day hour (true, settlement (hourFramed asks n places) .amount .0))
+  pub kept : bookIn book (readingOf (lineOf (posting day hour (hourFramed asks n places))))
+      ≡ callBook book (Call.post day hour (true, settlement (hourFramed asks n places) .amount .0))
