@@ -1,5 +1,5 @@
-// The peer of crates/bench_calls: the same calls on a month ledger in plain Rust, as one would write it without proofs.
-// Standard input and the lines printed are those of the Rattle program.
+// The peer of crates/bench for ledger calls: the same calls on a month ledger in plain Rust, as one would write it without proofs.
+// Standard input is that of the Rattle program, ten numbers; of its lines this peer prints those of its own counts.
 use std::io::Read;
 
 const PLACES: usize = 744;
@@ -196,7 +196,13 @@ fn main() {
     let mut number = || numbers.next().unwrap_or(0);
     let (days, closed) = ((28 + number() % 4) as u8, number() == 1);
     let (ordered, placed, valued) = (number(), number(), number());
-    println!("in order, in place {ordered} {}", in_place(Month::new(days, closed), true, ordered));
-    println!("by chance, in place {placed} {}", in_place(Month::new(days, closed), false, placed));
-    println!("by chance, by value {valued} {}", by_value(Month::new(days, closed), valued));
+    if ordered != 0 {
+        println!("in order, in place {ordered} {}", in_place(Month::new(days, closed), true, ordered));
+    }
+    if placed != 0 {
+        println!("by chance, in place {placed} {}", in_place(Month::new(days, closed), false, placed));
+    }
+    if valued != 0 {
+        println!("by chance, by value {valued} {}", by_value(Month::new(days, closed), valued));
+    }
 }

@@ -1,5 +1,5 @@
-// The peer of crates/bench_frames: the same frames read and written in plain Rust, as one would write it without proofs.
-// Standard input and the lines printed are those of the Rattle program.
+// The peer of crates/bench for frames: the same frames read and written in plain Rust, as one would write it without proofs.
+// Standard input is that of the Rattle program, ten numbers; of its lines this peer prints those of its own counts.
 use std::io::Read;
 
 const WRONG_LENGTH: u8 = 1;
@@ -163,9 +163,13 @@ fn write(calls: u64) -> u64 {
 fn main() {
     let mut input = String::new();
     std::io::stdin().read_to_string(&mut input).expect("standard input");
-    let mut numbers = input.split_whitespace().map(|n| n.parse::<u64>().expect("a number"));
+    let mut numbers = input.split_whitespace().skip(5).map(|n| n.parse::<u64>().expect("a number"));
     let mut number = || numbers.next().unwrap_or(0);
     let (reads, writes) = (number(), number());
-    println!("read {reads} {}", read(&make_lines(), reads));
-    println!("written {writes} {}", write(writes));
+    if reads != 0 {
+        println!("read {reads} {}", read(&make_lines(), reads));
+    }
+    if writes != 0 {
+        println!("written {writes} {}", write(writes));
+    }
 }

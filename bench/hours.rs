@@ -1,5 +1,5 @@
-// The peer of crates/bench_hours: the same hours in plain Rust, as one would write them without proofs, in one pass over the seconds.
-// Standard input and the lines printed are those of the Rattle program.
+// The peer of crates/bench for whole hours: the same hours in plain Rust, as one would write them without proofs, in one pass over the seconds.
+// Standard input is that of the Rattle program, ten numbers; of its lines this peer prints those of its own counts.
 use std::io::Read;
 
 const SECONDS: usize = 3600;
@@ -252,9 +252,13 @@ fn run(shifting: bool, capacity: u64, targets: [i64; 5], count: u64) -> u64 {
 fn main() {
     let mut input = String::new();
     std::io::stdin().read_to_string(&mut input).expect("standard input");
-    let mut numbers = input.split_whitespace().map(|n| n.parse::<u64>().expect("a number"));
+    let mut numbers = input.split_whitespace().skip(7).map(|n| n.parse::<u64>().expect("a number"));
     let mut number = || numbers.next().unwrap_or(0);
     let (capacity, plain, shifting) = (number(), number(), number());
-    println!("dReg {plain} {}", run(false, capacity, [0; 5], plain));
-    println!("E-dReg {shifting} {}", run(true, capacity, [2_000, -3_000, 5_000, -8_000, 4_000], shifting));
+    if plain != 0 {
+        println!("dReg {plain} {}", run(false, capacity, [0; 5], plain));
+    }
+    if shifting != 0 {
+        println!("E-dReg {shifting} {}", run(true, capacity, [2_000, -3_000, 5_000, -8_000, 4_000], shifting));
+    }
 }

@@ -28,8 +28,9 @@ def percent(bound, d):
             return nearest(p[bound] + Fraction(d - p[0], q[0] - p[0]) * (q[bound] - p[bound]))
 
 
-print(f"// The power curve: 501 pairs, upper and lower percent of capacity for each millihertz from {REFERENCE + FIRST:,} to {REFERENCE + LAST:,}. make_table.py prints this file.")
-print("pub const PAIRS: [i8; 1_002] = [")
+print(f"// The power curve: {LAST - FIRST + 1} pairs, upper and lower percent of capacity for each millihertz from {REFERENCE + FIRST:,} to")
+print(f"// {REFERENCE + LAST:,}. make_table.py prints this file.")
+print(f"pub const PAIRS: [i8; {2 * (LAST - FIRST + 1):_}] = [")
 for d in range(FIRST, LAST + 1):
     print(f"    {percent(1, d)}, // {REFERENCE + d} upper")
     print(f"    {percent(2, d)}, // {REFERENCE + d} lower")

@@ -200,6 +200,21 @@ for what in [
     book("close", m.close())
     read_out(m)
 
+line("in place, past the month")
+_, m = opened(28)
+for label, place in [
+    ("first", 0),
+    ("last", 671),
+    ("past the month", 672),
+    ("last place", 743),
+    ("past every place", 744),
+    ("usize", 2**64 - 1),
+]:
+    d, h = place // 24 + 1, place % 24
+    k, m = m.post(d, h, 5)
+    line(label, k, *m.hour(d, h))
+line("total", *m.total())
+
 
 # ---- runs
 

@@ -21,6 +21,8 @@ use Rattle.units.specs.Limits.{monthPlaces}
 use Rattle.text.specs.Text.{put}
 use Rattle.book.specs.Inner.{bookOf}
 use Rattle.intake.specs.Answers.{ledgerTranscript}
+use Rattle.board.specs.Calls.{lentMarks, lentAmounts}
+use Rattle.intake.specs.Calls.{lentChunk, lentOut}
 use Rattle.intake.specs.Inner.{linesIn, firstProgress, bookRefusal, feedRefusal, endRefusal, chunkText, chunkBook, chunkState, lastText, fedNumber, endNumber, fedOf, fedMarks, fedAmounts, fedOut, finishedOf, endMarks, endAmounts, endOut}
 use Rattle.intake.specs.declared.Progress.{Progress}
 use Rattle.intake.specs.declared.Fed.{Fed}
@@ -31,9 +33,9 @@ use Rattle.intake.proofs.feed.Kinds as feed-kinds
 use Rattle.intake.proofs.finish.Reads as finish-reads
 use Rattle.intake.proofs.finish.Kinds as finish-kinds
 use Rattle.account.specs.Account.{printedOf}
-use Rattle.account.specs.Prints.{Feeds, Finishes, Prints, finished, fed, Reaches, started, fed-on}
+use Rattle.account.specs.Prints.{Feeds, Finishes, inputOf, Prints, finished, fed, Reaches, started, fed-on}
 use Rattle.account.proofs.Demand.{transcript-told}
-use Rattle.account.proofs.Transcript.{joined, outputFrom, output-transcript}
+use Rattle.account.proofs.Transcript.{outputFrom, output-transcript}
 
 -- ---- what an accepted call leaves
 
@@ -87,13 +89,13 @@ fedly : {state next : Progress} {chunk : List ℕ} {marks marksAfter : List Bool
 fedly f =
     let h = f .handed in
     let st = h .0 in
-    let ch = now (h .1 .0) in
-    let fs = now (h .1 .1 .0) in
-    let xs = now (h .1 .1 .1 .0) in
-    let out = now (h .1 .1 .1 .1 .0) in
+    let ch = lentChunk h in
+    let fs = lentMarks (h .1) in
+    let xs = lentAmounts (h .1) in
+    let out = lentOut (h .1) in
     let p = f .post in
     let z : fedOf st ch fs xs out .refusal ≡ 0 = sym (ap (λ (r : Fed). r .refusal) (p .0)) ∙ f .accepted in
-    let given : Fedly st ch fs xs (f .answer .state) (now (f .left .1 .1 .0)) (now (f .left .1 .1 .1 .0)) (take (f .answer .written) (now (f .left .1 .1 .1 .1 .0))) =
+    let given : Fedly st ch fs xs (f .answer .state) (lentMarks (f .left .1)) (lentAmounts (f .left .1)) (take (f .answer .written) (lentOut (f .left .1))) =
     record {
       next-is = ap (λ (r : Fed). r .state) (p .0) ∙ state-left st ch fs xs out z;
       marks-is = p .1 .0 ∙ marks-left st ch fs xs out z;
@@ -106,12 +108,12 @@ endly : {state : Progress} {marks : List Bool} {amounts : List ℤ} {text : List
 endly f =
     let h = f .handed in
     let st = h .0 in
-    let fs = now (h .1 .0) in
-    let xs = now (h .1 .1 .0) in
-    let out = now (h .1 .1 .1 .0) in
+    let fs = lentMarks h in
+    let xs = lentAmounts h in
+    let out = lentOut h in
     let p = f .post in
     let z : finishedOf st fs xs out .refusal ≡ 0 = sym (ap (λ (r : Finished). r .refusal) (p .0)) ∙ f .accepted in
-    let given : take (f .answer .written) (now (f .left .1 .1 .1 .0)) ≡ lastText st fs xs =
+    let given : take (f .answer .written) (lentOut (f .left)) ≡ lastText st fs xs =
     ap₂ (λ (r : Finished) (o : List ℕ). take (r .written) o) (p .0) (p .1 .1 .1 .0) ∙ end-left st fs xs out z in
     rw (f .is-state, f .is-marks, f .is-amounts, f .is-text) at given
 
@@ -123,13 +125,13 @@ printed-is (fed {cs = cs} {rest = rest} f more) =
     ap₂ _++_ (d .text-is)
     (printed-is more ∙ ap₂ (λ (s : Progress) (m : List Bool × List ℤ). outputFrom s (m .0) (m .1) cs) (d .next-is) (ap₂ (λ (b : List Bool) (x : List ℤ). (b, x)) (d .marks-is) (d .amounts-is)))
 
--- from the first state and a month's empty places, whatever meets the contracts prints the transcript of the chunks joined
-pub prints-transcript : (cs : List (List ℕ)) (text : List ℕ) → Prints firstProgress (replicate monthPlaces false) (replicate monthPlaces (pos 0)) cs text → text ≡ ledgerTranscript (joined cs)
+-- from the first state and a month's empty places, whatever meets the contracts prints the transcript of the input that the chunks are of
+pub prints-transcript : (cs : List (List ℕ)) (text : List ℕ) → Prints firstProgress (replicate monthPlaces false) (replicate monthPlaces (pos 0)) cs text → text ≡ ledgerTranscript (inputOf cs)
 prints-transcript cs text p = printed-is p ∙ output-transcript cs
 
 -- and so the history of the input's frames: each line its number as the history rules, and then the total of that history
-pub prints-history : (cs : List (List ℕ)) (text : List ℕ) → Prints firstProgress (replicate monthPlaces false) (replicate monthPlaces (pos 0)) cs text → text ≡ printedOf (joined cs)
-prints-history cs text p = prints-transcript cs text p ∙ transcript-told (joined cs)
+pub prints-history : (cs : List (List ℕ)) (text : List ℕ) → Prints firstProgress (replicate monthPlaces false) (replicate monthPlaces (pos 0)) cs text → text ≡ printedOf (inputOf cs)
+prints-history cs text p = prints-transcript cs text p ∙ transcript-told (inputOf cs)
 
 -- ---- every `feed` of the program is accepted, and so is its `finish`
 
@@ -142,20 +144,20 @@ reaches-kept (fed-on {state = state} {marks = marks} {amounts = amounts} {chunk 
 
 -- a read of at most 65,536 bytes, against the run of 786,432 that the program lends
 pub feed-accepted : (κs : Lfts 4) (a : Dens κs feed-kinds.ps) (r : Fed) (s : AtExit (endedOf 4 feed-kinds.ps feed-kinds.r) κs) → feed-reads.Post κs a r s
-    → Reaches (a .0) (now (a .1 .1 .0)) (now (a .1 .1 .1 .0)) → length (now (a .1 .0)) ≤ 65536 → length (now (a .1 .1 .1 .1 .0)) ≡ 786432 → r .refusal ≡ 0
+    → Reaches (a .0) (lentMarks (a .1)) (lentAmounts (a .1)) → length (lentChunk a) ≤ 65536 → length (lentOut (a .1)) ≡ 786432 → r .refusal ≡ 0
 unfolding fedOf feedRefusal
 feed-accepted κs a r s p reached short long =
-    let enough : length (now (a .1 .0)) ≤ length (now (a .1 .1 .1 .1 .0)) / 12 = omega arith in
-    let room : leb (length (now (a .1 .0))) (length (now (a .1 .1 .1 .1 .0)) / 12) ≡ true = le-leb _ _ enough in
-    let none : fedNumber (a .0) (now (a .1 .0)) (now (a .1 .1 .0)) (now (a .1 .1 .1 .0)) (now (a .1 .1 .1 .1 .0)) ≡ 0 = rw room (reaches-kept reached) in
+    let enough : length (lentChunk a) ≤ length (lentOut (a .1)) / 12 = omega arith in
+    let room : leb (length (lentChunk a)) (length (lentOut (a .1)) / 12) ≡ true = le-leb _ _ enough in
+    let none : fedNumber (a .0) (lentChunk a) (lentMarks (a .1)) (lentAmounts (a .1)) (lentOut (a .1)) ≡ 0 = rw room (reaches-kept reached) in
     ap (λ (x : Fed). x .refusal) (p .0) ∙ ap (λ (x : Fed). x .refusal) (kept-new _ _ none)
 
 pub finish-accepted : (κs : Lfts 3) (a : Dens κs finish-kinds.ps) (r : Finished) (s : AtExit (endedOf 3 finish-kinds.ps finish-kinds.r) κs) → finish-reads.Post κs a r s
-    → Reaches (a .0) (now (a .1 .0)) (now (a .1 .1 .0)) → 40 ≤ length (now (a .1 .1 .1 .0)) → r .refusal ≡ 0
+    → Reaches (a .0) (lentMarks a) (lentAmounts a) → 40 ≤ length (lentOut a) → r .refusal ≡ 0
 unfolding finishedOf endRefusal
 finish-accepted κs a r s p reached long =
-    let room : leb 40 (length (now (a .1 .1 .1 .0))) ≡ true = le-leb _ _ long in
-    let none : endNumber (a .0) (now (a .1 .0)) (now (a .1 .1 .0)) (now (a .1 .1 .1 .0)) ≡ 0 = rw room (reaches-kept reached) in
+    let room : leb 40 (length (lentOut a)) ≡ true = le-leb _ _ long in
+    let none : endNumber (a .0) (lentMarks a) (lentAmounts a) (lentOut a) ≡ 0 = rw room (reaches-kept reached) in
     ap (λ (x : Finished). x .refusal) (p .0) ∙ ap (λ (x : Finished). x .refusal) (kept-new _ _ none)
 
 -- ---- there are such calls: the definitions' own answers, with runs lent that are long enough
@@ -248,7 +250,7 @@ made-from state marks amounts (c ∷ cs) k =
     (all-kept (bookOf (state .cover) marks amounts) (linesIn (state .line) c) k))
 
 -- any input, however it is cut, is printed so
-pub prints-made : (cs : List (List ℕ)) → Prints firstProgress (replicate monthPlaces false) (replicate monthPlaces (pos 0)) cs (ledgerTranscript (joined cs))
+pub prints-made : (cs : List (List ℕ)) → Prints firstProgress (replicate monthPlaces false) (replicate monthPlaces (pos 0)) cs (ledgerTranscript (inputOf cs))
 prints-made cs =
     subst (Prints firstProgress (replicate monthPlaces false) (replicate monthPlaces (pos 0)) cs) (output-transcript cs)
     (made-from firstProgress (replicate monthPlaces false) (replicate monthPlaces (pos 0)) cs (reaches-kept started))

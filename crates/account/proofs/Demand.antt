@@ -13,7 +13,8 @@ use borrow.Author.Tests.{eqb-true, eq-eqb}
 use Rattle.whole.specs.Choice.{pick, kept}
 use Rattle.whole.proofs.Choice.{by-test, both, passed}
 use Rattle.history.specs.Rules.{Call}
-use Rattle.history.specs.Board.{fresh, runsFit, openRuling, handed}
+use Rattle.history.specs.Board.{fresh, handed}
+use Rattle.history.specs.Inner.{runsFit, openRuling}
 use Rattle.history.specs.History.{Recorded, Ruled}
 use Rattle.history.proofs.Board.{good-refusal, good-left}
 use Rattle.history.proofs.Steps.{Told, recorded, ruled, start-told, next-told}

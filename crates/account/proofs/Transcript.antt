@@ -13,7 +13,7 @@ use Rattle.whole.specs.Choice.{pick}
 use Rattle.whole.proofs.Choice.{by-test}
 use Rattle.units.specs.Limits.{monthPlaces}
 use Rattle.history.specs.Board.{fresh}
-use Rattle.intake.specs.Lines.{lineEnd, linesAfter, linesOf, lineEnds}
+use Rattle.intake.specs.Lines.{lineEnd, linesAfter, linesOf}
 use Rattle.intake.specs.Text.{totalText}
 use Rattle.book.specs.Book.{Book}
 use Rattle.intake.specs.Answers.{firstBook, mostLines, answerTo, bookAfter, answersTo, bookAfterAll, bookTotal, ledgerTranscript}
@@ -22,6 +22,8 @@ use Rattle.intake.specs.Inner.{heldIn, emptyLine, pushed, linesIn, leftIn, last
 use Rattle.intake.specs.declared.Line.{Line}
 use Rattle.intake.specs.declared.Progress.{Progress}
 use Rattle.intake.proofs.Cutting.{Shows, shows-empty, shows-push, reading-kept}
+use Rattle.account.specs.Account.{lineEnds}
+use Rattle.account.specs.Prints.{inputOf}
 use Rattle.intake.proofs.Counting.{answered-none, answered-one}
 
 -- ---- past the most lines nothing is answered and nothing changes
@@ -36,10 +38,6 @@ ignored book (l ∷ ls) h =
     )
 
 -- ---- lines, one chunk after the other
-
-abbrev pub joined : List (List ℕ) → List ℕ
-joined [] = []
-joined (c ∷ cs) = c ++ joined cs
 
 append-by : (l m : Line) (xs ys : List ℕ) (t : Bool)
     → linesIn emptyLine (xs ++ ys) ≡ linesIn emptyLine xs ++ linesIn (leftIn emptyLine xs) ys → linesIn m (xs ++ ys) ≡ linesIn m xs ++ linesIn (leftIn m xs) ys
@@ -144,14 +142,14 @@ from-append : (l : Line) (xs ys : List ℕ) → linesFrom l (xs ++ ys) ≡ lines
 from-append l xs ys = rw (lines-append l xs ys, left-append l xs ys, append-assoc)
 
 output-is : (state : Progress) (marks : List Bool) (amounts : List ℤ) (cs : List (List ℕ))
-    → outputFrom state marks amounts cs ≡ endsWith (bookOf (state .cover) marks amounts) (linesFrom (state .line) (joined cs))
+    → outputFrom state marks amounts cs ≡ endsWith (bookOf (state .cover) marks amounts) (linesFrom (state .line) (inputOf cs))
 output-is state marks amounts [] = refl
 output-is state marks amounts (c ∷ cs) =
     let book = bookOf (state .cover) marks amounts in
     let ls = linesIn (state .line) c in
     ap (λ (r : List ℕ). answersTo book ls ++ r)
     (output-is (chunkState state c marks amounts) (chunkBook state c marks amounts .board .marks) (chunkBook state c marks amounts .board .amounts) cs)
-    ∙ sym (ap (endsWith book) (from-append (state .line) c (joined cs)) ∙ ends-append book ls (linesFrom (leftIn (state .line) c) (joined cs)))
+    ∙ sym (ap (endsWith book) (from-append (state .line) c (inputOf cs)) ∙ ends-append book ls (linesFrom (leftIn (state .line) c) (inputOf cs)))
 
 -- a transcript, by the lines as they are kept
 kept-transcript : (input : List ℕ) → endsWith firstBook (linesFrom emptyLine input) ≡ ledgerTranscript input
@@ -161,9 +159,9 @@ kept-transcript input =
     ∙ ap₂ (λ (s : List ℕ) (b : Book). s ++ totalText (bookTotal b)) (answers-kept firstBook (linesOf input)) (books-kept firstBook (linesOf input))
 
 -- "Given .. it prints": from the first state and a month's empty places, any cutting of an input gives its transcript
-pub output-transcript : (cs : List (List ℕ)) → outputFrom firstProgress (replicate monthPlaces false) (replicate monthPlaces (pos 0)) cs ≡ ledgerTranscript (joined cs)
+pub output-transcript : (cs : List (List ℕ)) → outputFrom firstProgress (replicate monthPlaces false) (replicate monthPlaces (pos 0)) cs ≡ ledgerTranscript (inputOf cs)
 unfolding firstProgress fresh
-output-transcript cs = output-is firstProgress (replicate monthPlaces false) (replicate monthPlaces (pos 0)) cs ∙ kept-transcript (joined cs)
+output-transcript cs = output-is firstProgress (replicate monthPlaces false) (replicate monthPlaces (pos 0)) cs ∙ kept-transcript (inputOf cs)
 
 -- ---- "It reads at most 1,000,000 lines and ignores the rest": once they have ended no further byte changes the transcript, also inside a line
 

@@ -1,6 +1,6 @@
 -- From an input's bytes to the history of its frames (document 01, "Frames"; demand 3), and what is printed, told from that history alone: no board, no place and no lent run
 -- is in it.
-use Prim.Native.Nat.{ℕ, _+_}
+use Prim.Native.Nat.{ℕ, suc, _+_}
 use mathlib.Core.List.{List, [], _∷_, _++_}
 use mathlib.Core.Option.{Option, none, some}
 use lib.Dec.{eqb}
@@ -17,7 +17,7 @@ use Rattle.frame.specs.Frame.{readingOf}
 use Rattle.frame.specs.declared.Entry.{Entry}
 use Rattle.frame.specs.declared.Reading.{Reading}
 use Rattle.frame.specs.declared.Reading.the-variants.{Frame, Refused}
-use Rattle.intake.specs.Lines.{linesOf}
+use Rattle.intake.specs.Lines.{lineEnd, linesOf}
 use Rattle.intake.specs.Text.{verdictText, totalText}
 use Rattle.book.specs.Book.{callOf}
 use Rattle.intake.specs.Answers.{mostLines}
@@ -85,6 +85,11 @@ linesTold n a (l ∷ ls) = verdictText (n + 1) (lineNumber a (readingOf l)) ++ l
 abbrev pub totalAfter : Option ℕ → List (Recorded Fee Item) → ℤ
 totalAfter none h = pos 0
 totalAfter (some days) h = totalIs (monthRules days) h
+
+-- how many lines have ended
+abbrev pub lineEnds : List ℕ → ℕ
+lineEnds [] = 0
+lineEnds (b ∷ bs) = pick (eqb b lineEnd) (suc (lineEnds bs)) (lineEnds bs)
 
 -- "It reads at most 1,000,000 lines and ignores the rest."
 abbrev pub linesRead : List ℕ → List (List ℕ)

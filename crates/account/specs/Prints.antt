@@ -6,10 +6,11 @@ use mathlib.Core.List.{List, [], _∷_, _++_}
 use lib.IntN.{ℤ, pos}
 use lib.ListN.{take, replicate}
 use contract.Lifetimes.{Lfts}
-use denote.Ref.{now}
 use denote.Triple.Clauses.{AtExit}
 use borrow.Fn.Kinds.{Dens, endedOf}
 use Rattle.units.specs.Limits.{monthPlaces}
+use Rattle.board.specs.Calls.{lentMarks, lentAmounts}
+use Rattle.intake.specs.Calls.{lentChunk, lentOut}
 use Rattle.intake.specs.Inner.{firstProgress}
 use Rattle.intake.specs.declared.Progress.{Progress}
 use Rattle.intake.specs.declared.Fed.{Fed}
@@ -28,13 +29,13 @@ pub record Feeds (state : Progress) (chunk : List ℕ) (marks : List Bool) (amou
   pub post : feed-reads.Post κs handed answer left
   pub accepted : answer .refusal ≡ 0
   pub is-state : handed .0 ≡ state
-  pub is-chunk : now (handed .1 .0) ≡ chunk
-  pub is-marks : now (handed .1 .1 .0) ≡ marks
-  pub is-amounts : now (handed .1 .1 .1 .0) ≡ amounts
+  pub is-chunk : lentChunk handed ≡ chunk
+  pub is-marks : lentMarks (handed .1) ≡ marks
+  pub is-amounts : lentAmounts (handed .1) ≡ amounts
   pub is-next : answer .state ≡ next
-  pub is-marks-after : now (left .1 .1 .0) ≡ marksAfter
-  pub is-amounts-after : now (left .1 .1 .1 .0) ≡ amountsAfter
-  pub is-text : take (answer .written) (now (left .1 .1 .1 .1 .0)) ≡ text
+  pub is-marks-after : lentMarks (left .1) ≡ marksAfter
+  pub is-amounts-after : lentAmounts (left .1) ≡ amountsAfter
+  pub is-text : take (answer .written) (lentOut (left .1)) ≡ text
 
 -- and of `finish`
 pub record Finishes (state : Progress) (marks : List Bool) (amounts : List ℤ) (text : List ℕ) : Type 0 where
@@ -45,9 +46,14 @@ pub record Finishes (state : Progress) (marks : List Bool) (amounts : List ℤ) 
   pub post : finish-reads.Post κs handed answer left
   pub accepted : answer .refusal ≡ 0
   pub is-state : handed .0 ≡ state
-  pub is-marks : now (handed .1 .0) ≡ marks
-  pub is-amounts : now (handed .1 .1 .0) ≡ amounts
-  pub is-text : take (answer .written) (now (left .1 .1 .1 .0)) ≡ text
+  pub is-marks : lentMarks handed ≡ marks
+  pub is-amounts : lentAmounts handed ≡ amounts
+  pub is-text : take (answer .written) (lentOut left) ≡ text
+
+-- the input that chunks are of
+abbrev pub inputOf : List (List ℕ) → List ℕ
+inputOf [] = []
+inputOf (c ∷ cs) = c ++ inputOf cs
 
 -- chunk after chunk, each given the state and runs that the one before left, and the end
 pub data Prints : Progress → List Bool → List ℤ → List (List ℕ) → List ℕ → Type 0 where

@@ -13,7 +13,7 @@ use Rattle.whole.proofs.Runs.{rest, no-rest}
 use Rattle.tokens.specs.Bytes.{parts}
 use Rattle.tokens.specs.Tokens.{tokenNumber, stepOf}
 use Rattle.asked.specs.Asking.{tokenFault, begins, stepped}
-use Rattle.asked.specs.Inner.{stored, runStepped, takenIn, stateIn, runIn, endedIn, isRun, reachedOf, endOf, answerIn, runAfter, readOf}
+use Rattle.asked.specs.Inner.{stored, runStepped, takenIn, stateIn, runIn, endedIn, isRun, reachedOf, answerIn, readOf}
 use Rattle.tokens.specs.declared.Next.{Next}
 use Rattle.tokens.specs.declared.Token.{Token}
 use Rattle.asked.specs.declared.State.{State}
@@ -69,7 +69,7 @@ module _ {start : State} {chunk : List ℕ} {begun : List ℤ} {reached : State}
   -- what is answered where the reading stops at place i
   abbrev pub Stopped : Bool → Type 0
   Stopped ended =
-      (reachedOf reached i ended ≡ reachedOf (stateIn start chunk) (takenIn start chunk) (endedIn start chunk))
+      (reachedOf reached i ended ≡ answerIn start chunk)
       × (run ≡ runIn start chunk begun)
 
   -- the byte there begins the next question
@@ -99,31 +99,10 @@ taken-within state (b ∷ bs) =
     (λ (t : begins state b ≡ true). rw t (omega arith))
     (λ (t : begins state b ≡ false). rw t (omega (arith, taken-within (stepped state b) bs)))
 
-pub taken-in : (state : State) (chunk : List ℕ) → answerIn state chunk .taken ≤ length chunk
-unfolding reachedOf
-taken-in state [] = omega arith
-taken-in state (b ∷ bs) = taken-within state (b ∷ bs)
-
 -- whatever is handed in
 pub read-taken : (state : State) (chunk : List ℕ) (run : List ℤ) → readOf state chunk run .taken ≤ length chunk
-unfolding readOf
+unfolding readOf reachedOf
 read-taken state chunk run =
     by-test (isRun run)
-    (λ (t : isRun run ≡ true). rw t (taken-in state chunk))
+    (λ (t : isRun run ≡ true). rw t (taken-within state chunk))
     (λ (t : isRun run ≡ false). rw t (omega arith))
-
--- ---- a chunk of no bytes, and any other
-
-pub granted-none : (state : State) (chunk : List ℕ) → answerIn state chunk .refusal ≡ 0
-unfolding reachedOf
-granted-none state [] = refl
-granted-none state (b ∷ bs) = refl
-
-module _ (state : State) (run : List ℤ) where
-  pub at-end : (chunk : List ℕ) → length chunk ≡ 0 → (answerIn state chunk ≡ endOf state) × (runAfter state chunk run ≡ stored (state .asked .count) (state .token) run)
-  at-end [] e = (refl, refl)
-  at-end (b ∷ bs) e = absurd (omega arith)
-
-  pub not-end : (chunk : List ℕ) → (length chunk ≡ 0 → ⊥) → (answerIn state chunk ≡ reachedOf (stateIn state chunk) (takenIn state chunk) (endedIn state chunk)) × (runAfter state chunk run ≡ runIn state chunk run)
-  not-end [] h = absurd (h refl)
-  not-end (b ∷ bs) h = (refl, refl)

@@ -51,20 +51,25 @@ unfoldable pub reachedOf : State → ℕ → Bool → Reached
 reachedOf state taken ended =
     record { refusal = 0; asked = state .asked; state = pick ended (stateNext state) state; taken = taken; ended = ended }
 
--- the input's end, which a chunk of no bytes is
-abbrev pub endOf : State → Reached
-endOf state = reachedOf (lastState state) 0 (lastState state .asked .opened)
-
 abbrev pub answerIn : State → List ℕ → Reached
-answerIn state [] = endOf state
-answerIn state (b ∷ bs) = reachedOf (stateIn state (b ∷ bs)) (takenIn state (b ∷ bs)) (endedIn state (b ∷ bs))
-
-abbrev pub runAfter : State → List ℕ → List ℤ → List ℤ
-runAfter state [] run = stored (state .asked .count) (state .token) run
-runAfter state (b ∷ bs) run = runIn state (b ∷ bs) run
+answerIn state chunk = reachedOf (stateIn state chunk) (takenIn state chunk) (endedIn state chunk)
 
 unfoldable pub readOf : State → List ℕ → List ℤ → Reached
 readOf state chunk run = pick (isRun run) (answerIn state chunk) (refused state)
 
 unfoldable pub readRun : State → List ℕ → List ℤ → List ℤ
-readRun state chunk run = pick (isRun run) (runAfter state chunk run) run
+readRun state chunk run = pick (isRun run) (runIn state chunk run) run
+
+-- ---- the input's end: the token that has begun ends, and so does the question that is open
+
+abbrev pub lastOf : State → Reached
+lastOf state = reachedOf (lastState state) 0 (lastState state .asked .opened)
+
+abbrev pub lastRun : State → List ℤ → List ℤ
+lastRun state run = stored (state .asked .count) (state .token) run
+
+unfoldable pub endOf : State → List ℤ → Reached
+endOf state run = pick (isRun run) (lastOf state) (refused state)
+
+unfoldable pub endRun : State → List ℤ → List ℤ
+endRun state run = pick (isRun run) (lastRun state run) run

@@ -6,7 +6,7 @@ ghost use Rattle.whole.specs.Choice.{pick};
 ghost use Rattle.tokens.specs.Tokens.{stepOf};
 ghost use Rattle.asked.specs.Asking.{mostNumbers, nothing, startState, named, asking, faulted, faultIn, withToken, finished};
 ghost use Rattle.asked.specs.Asking.{lineAfter, stepped};
-ghost use Rattle.asked.specs.Inner.{stored, takenIn, stateIn, runIn, endedIn, reachedOf, endOf, readOf, readRun};
+ghost use Rattle.asked.specs.Inner.{stored, runIn, refused, reachedOf, answerIn, readOf, readRun, lastOf, lastRun, endOf, endRun};
 use tokens::Next;
 use tokens::Token;
 use units::refusals;
@@ -39,8 +39,8 @@ pub struct State {
     pub line: u64,
 }
 
-// How far a chunk was read: the question, the state to go on with, how many bytes were taken, and whether the
-// question has ended.
+// How far a chunk was read, or what the input's end came to: the question, the state to go on with, how many bytes
+// were taken, and whether the question has ended.
 pub struct Reached {
     pub refusal: u8,
     pub asked: Asked,
@@ -63,26 +63,28 @@ pub fn start() -> State
     }
 }
 
-// Goes through the chunk up to the byte that begins the next question, which is not taken, or through all of it. A
-// chunk of no bytes is the input's end: the token that has begun ends, and so does the question that is open. A run
+// Goes through the chunk up to the byte that begins the next question, which is not taken, or through all of it. A run
 // of another length is refused with 1, and nothing is changed.
 pub fn read(state: State, chunk: &[u8], numbers: &mut [i64]) -> Reached
     ensures answer { λ r. ⌜ r ≡ readOf state (now (chunk .entry)) (now (numbers .entry)) ⌝ }
     ensures run { λ r. ⌜ now (numbers .exit) ≡ readRun state (now (chunk .entry)) (now (numbers .entry)) ⌝ }
 {
     if numbers.len() != MOST {
-        return Reached {
-            refusal: refusals::WRONG_LENGTH,
-            asked: nothing(),
-            state,
-            taken: 0,
-            ended: false,
-        };
-    }
-    if chunk.len() == 0 {
-        return end(state, numbers);
+        return refused(state);
     }
     read_all(state, chunk, numbers)
+}
+
+// The input's end: the token that has begun ends, and so does the question that is open. A run of another length is
+// refused with 1, and nothing is changed.
+pub fn end(state: State, numbers: &mut [i64]) -> Reached
+    ensures answer { λ r. ⌜ r ≡ endOf state (now (numbers .entry)) ⌝ }
+    ensures run { λ r. ⌜ now (numbers .exit) ≡ endRun state (now (numbers .entry)) ⌝ }
+{
+    if numbers.len() != MOST {
+        return refused(state);
+    }
+    last(state, numbers)
 }
 
 fn nothing() -> Asked
@@ -95,6 +97,125 @@ fn nothing() -> Asked
         count: 0,
         fault: 0,
         place: 0,
+    }
+}
+
+fn refused(state: State) -> Reached
+    ensures { λ r. ⌜ r ≡ refused state ⌝ }
+{
+    Reached {
+        refusal: refusals::WRONG_LENGTH,
+        asked: nothing(),
+        state,
+        taken: 0,
+        ended: false,
+    }
+}
+
+fn read_all(state: State, chunk: &[u8], numbers: &mut [i64]) -> Reached
+    requires { ⌜ length (now numbers) ≡ mostNumbers ⌝ }
+    ensures answer { λ r. ⌜ r ≡ answerIn state (now (chunk .entry)) ⌝ }
+    ensures run { λ r. ⌜ now (numbers .exit) ≡ runIn state (now (chunk .entry)) (now (numbers .entry)) ⌝ }
+{
+    let mut state = state;
+    let mut i = 0;
+    while i < chunk.len() {
+        let b = chunk[i];
+        let asked = state.asked;
+        let token = state.token;
+        let next = tokens::step(token, b);
+        if asked.opened & next.word {
+            return reach(state, i, true);
+        }
+        store(next.ended, asked.count, token, numbers);
+        state = stepped(state, next, b);
+        i += 1;
+    }
+    reach(state, i, false)
+}
+
+// What a chunk or the input's end comes to; a question that has ended leaves its line, and nothing asked.
+fn reach(state: State, taken: usize, ended: bool) -> Reached
+    ensures { λ r. ⌜ r ≡ reachedOf state taken ended ⌝ }
+{
+    let asked = state.asked;
+    if ended {
+        let token = state.token;
+        return Reached {
+            refusal: 0,
+            asked: asked,
+            state: State {
+                asked: nothing(),
+                token: token,
+                line: state.line,
+            },
+            taken,
+            ended,
+        };
+    }
+    Reached {
+        refusal: 0,
+        asked: asked,
+        state,
+        taken,
+        ended,
+    }
+}
+
+// Puts the number of a token that has ended at the next place, if it is one and finds room.
+fn store(ended: bool, count: usize, token: Token, numbers: &mut [i64])
+    requires { ⌜ length (now numbers) ≡ mostNumbers ⌝ }
+    ensures { λ _. ⌜ now (numbers .exit) ≡ pick ended (stored count token (now (numbers .entry))) (now (numbers .entry)) ⌝ }
+{
+    let number = tokens::number(token);
+    let value = number.value;
+    if ended & (fault_in(count, number.fault) == 0) {
+        numbers[count] = value;
+    }
+}
+
+// A token's fault, or 104 where its question has no room for one number more.
+fn fault_in(count: usize, fault: u8) -> u8
+    ensures { λ r. ⌜ r ≡ faultIn count fault ⌝ }
+{
+    whole::or_else(fault, whole::unless(count < MOST, faults::TOO_MANY, 0))
+}
+
+// The state after a byte, by what the byte does to the token.
+fn stepped(state: State, next: Next, b: u8) -> State
+    requires { ⌜ next ≡ stepOf (state .token) b ⌝ }
+    ensures { λ r. ⌜ r ≡ stepped state b ⌝ }
+{
+    let asked = state.asked;
+    let token = state.token;
+    let line = state.line;
+    let after = next.token;
+    if next.ended {
+        return State {
+            asked: finished(asked, line, token),
+            token: after,
+            line: line_after(line, b),
+        };
+    }
+    State {
+        asked: asked,
+        token: after,
+        line: line,
+    }
+}
+
+// The question once the token has ended.
+fn finished(asked: Asked, line: u64, token: Token) -> Asked
+    ensures { λ r. ⌜ r ≡ finished asked line token ⌝ }
+{
+    match token {
+        Token::Between => asked,
+        Token::Comment => asked,
+        Token::Word(code) => named(asked.count, line, code),
+        Token::Sign => with_token(asked, line, token),
+        Token::Number(_) => with_token(asked, line, token),
+        Token::Below(_) => with_token(asked, line, token),
+        Token::Other => with_token(asked, line, token),
     }
 }
 
@@ -120,6 +241,26 @@ fn named(count: usize, line: u64, code: u64) -> Asked
         fault: faults::NOT_QUESTION,
         place: line,
     }
+}
+
+// A token that is no word joins its question.
+fn with_token(asked: Asked, line: u64, token: Token) -> Asked
+    ensures { λ r. ⌜ r ≡ withToken asked line token ⌝ }
+{
+    let number = tokens::number(token);
+    let fault = fault_in(asked.count, number.fault);
+    let question = asking(asked, line);
+    if fault == 0 {
+        return Asked {
+            opened: question.opened,
+            word: question.word,
+            line: question.line,
+            count: question.count + 1,
+            fault: question.fault,
+            place: question.place,
+        };
+    }
+    faulted(question, fault, line)
 }
 
 // The question that a number belongs to.
@@ -149,60 +290,6 @@ fn faulted(asked: Asked, fault: u8, line: u64) -> Asked
     asked
 }
 
-// A token's fault, or 104 where its question has no room for one number more.
-fn fault_in(count: usize, fault: u8) -> u8
-    ensures { λ r. ⌜ r ≡ faultIn count fault ⌝ }
-{
-    whole::or_else(fault, whole::unless(count < MOST, faults::TOO_MANY, 0))
-}
-
-// A token that is no word joins its question.
-fn joined(asked: Asked, line: u64, token: Token) -> Asked
-    ensures { λ r. ⌜ r ≡ withToken asked line token ⌝ }
-{
-    let number = tokens::number(token);
-    let fault = fault_in(asked.count, number.fault);
-    let question = asking(asked, line);
-    if fault == 0 {
-        return Asked {
-            opened: question.opened,
-            word: question.word,
-            line: question.line,
-            count: question.count + 1,
-            fault: question.fault,
-            place: question.place,
-        };
-    }
-    faulted(question, fault, line)
-}
-
-// The question once the token has ended.
-fn finished(asked: Asked, line: u64, token: Token) -> Asked
-    ensures { λ r. ⌜ r ≡ finished asked line token ⌝ }
-{
-    match token {
-        Token::Between => asked,
-        Token::Comment => asked,
-        Token::Word(code) => named(asked.count, line, code),
-        Token::Sign => joined(asked, line, token),
-        Token::Number(_) => joined(asked, line, token),
-        Token::Below(_) => joined(asked, line, token),
-        Token::Other => joined(asked, line, token),
-    }
-}
-
-// Puts the number of a token that has ended at the next place, if it is one and finds room.
-fn store(ended: bool, count: usize, token: Token, numbers: &mut [i64])
-    requires { ⌜ length (now numbers) ≡ mostNumbers ⌝ }
-    ensures { λ _. ⌜ now (numbers .exit) ≡ pick ended (stored count token (now (numbers .entry))) (now (numbers .entry)) ⌝ }
-{
-    let number = tokens::number(token);
-    let value = number.value;
-    if ended & (fault_in(count, number.fault) == 0) {
-        numbers[count] = value;
-    }
-}
-
 fn line_after(line: u64, b: u8) -> u64
     ensures { λ r. ⌜ r ≡ lineAfter line b ⌝ }
 {
@@ -214,84 +301,11 @@ fn line_after(line: u64, b: u8) -> u64
     line
 }
 
-// The state after a byte, by what the byte does to the token.
-fn stepped(state: State, next: Next, b: u8) -> State
-    requires { ⌜ next ≡ stepOf (state .token) b ⌝ }
-    ensures { λ r. ⌜ r ≡ stepped state b ⌝ }
-{
-    let asked = state.asked;
-    let token = state.token;
-    let line = state.line;
-    let after = next.token;
-    if next.ended {
-        return State {
-            asked: finished(asked, line, token),
-            token: after,
-            line: line_after(line, b),
-        };
-    }
-    State {
-        asked: asked,
-        token: after,
-        line: line,
-    }
-}
-
-// What a chunk comes to; a question that has ended leaves its line, and nothing asked.
-fn reach(state: State, taken: usize, ended: bool) -> Reached
-    ensures { λ r. ⌜ r ≡ reachedOf state taken ended ⌝ }
-{
-    let asked = state.asked;
-    if ended {
-        let token = state.token;
-        return Reached {
-            refusal: 0,
-            asked: asked,
-            state: State {
-                asked: nothing(),
-                token: token,
-                line: state.line,
-            },
-            taken,
-            ended,
-        };
-    }
-    Reached {
-        refusal: 0,
-        asked: asked,
-        state,
-        taken,
-        ended,
-    }
-}
-
-fn read_all(state: State, chunk: &[u8], numbers: &mut [i64]) -> Reached
+// The last token ends, and its question.
+fn last(state: State, numbers: &mut [i64]) -> Reached
     requires { ⌜ length (now numbers) ≡ mostNumbers ⌝ }
-    ensures answer { λ r. ⌜ r ≡ reachedOf (stateIn state (now (chunk .entry))) (takenIn state (now (chunk .entry))) (endedIn state (now (chunk .entry))) ⌝ }
-    ensures run { λ r. ⌜ now (numbers .exit) ≡ runIn state (now (chunk .entry)) (now (numbers .entry)) ⌝ }
-{
-    let mut state = state;
-    let mut i = 0;
-    while i < chunk.len() {
-        let b = chunk[i];
-        let asked = state.asked;
-        let token = state.token;
-        let next = tokens::step(token, b);
-        if asked.opened & next.word {
-            return reach(state, i, true);
-        }
-        store(next.ended, asked.count, token, numbers);
-        state = stepped(state, next, b);
-        i += 1;
-    }
-    reach(state, i, false)
-}
-
-// The input's end.
-fn end(state: State, numbers: &mut [i64]) -> Reached
-    requires { ⌜ length (now numbers) ≡ mostNumbers ⌝ }
-    ensures answer { λ r. ⌜ r ≡ endOf state ⌝ }
-    ensures run { λ r. ⌜ now (numbers .exit) ≡ stored (state .asked .count) (state .token) (now (numbers .entry)) ⌝ }
+    ensures answer { λ r. ⌜ r ≡ lastOf state ⌝ }
+    ensures run { λ r. ⌜ now (numbers .exit) ≡ lastRun state (now (numbers .entry)) ⌝ }
 {
     let asked = state.asked;
     let token = state.token;

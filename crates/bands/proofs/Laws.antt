@@ -18,18 +18,10 @@ use Rattle.whole.proofs.Sums.{all-inside}
 use Rattle.units.specs.Limits.{mostScore, leastFactor, mostFactor, isFactor, mostBands}
 use Rattle.units.specs.Refusals.{badReading, badBands}
 use Rattle.bands.specs.Bands.{fall, lastThreshold, bandsFit, bandsRefusal, firstPlace, factorRefusal, withFactor, factorAnswer}
+use Rattle.bands.specs.Accepted.{BandsFit, First}
 use Rattle.bands.proofs.Steps.{place-first, place-later}
 
 -- ---- the rule, test by test
-
-pub record BandsFit (thresholds factors : List ℤ) : Type 0 where
-  pub some : 1 ≤ length thresholds
-  pub few : length thresholds ≤ mostBands
-  pub even : length factors ≡ length thresholds
-  pub percent : allInRange (pos 0) (pos mostScore) thresholds ≡ true
-  pub tenths : allInRange leastFactor mostFactor factors ≡ true
-  pub falling : fall thresholds ≡ true
-  pub ending : inRange (pos 0) (pos 0) (lastThreshold thresholds) ≡ true
 
 pub bands-fit : (thresholds factors : List ℤ) → bandsFit thresholds factors ≡ true → BandsFit thresholds factors
 unfolding bandsFit
@@ -99,13 +91,6 @@ place-before (t ∷ ts) rate i h =
     at : (i : ℕ) → leZ t rate ≡ false → i < suc (firstPlace ts rate) → ((k : ℕ) → k < firstPlace ts rate → leZ (getD ts k (pos 0)) rate ≡ false) → leZ (getD (t ∷ ts) i (pos 0)) rate ≡ false
     at zero n l more = n
     at (suc k) n l more = more k (omega arith)
-
--- "The first record whose threshold is at most the rate": it is there, its threshold is at most the rate, and each before it is above
-pub record First (thresholds factors : List ℤ) (rate : ℕ) (place : ℕ) : Type 0 where
-  pub there : place < length thresholds
-  pub paired : place < length factors
-  pub reached : leZ (getD thresholds place (pos 0)) (pos rate) ≡ true
-  pub first : (i : ℕ) → i < place → leZ (getD thresholds i (pos 0)) (pos rate) ≡ false
 
 pub first-is : {thresholds factors : List ℤ} {rate : ℕ} → LookupFits thresholds factors rate → First thresholds factors rate (firstPlace thresholds (pos rate))
 first-is {thresholds} {factors} {rate} f =

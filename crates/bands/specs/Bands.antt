@@ -44,6 +44,9 @@ firstPlace (t ∷ ts) rate = pick (leZ t rate) 0 (suc (firstPlace ts rate))
 unfoldable pub factorRefusal : List ℤ → List ℤ → ℕ → ℕ
 factorRefusal thresholds factors rate = inOrder ((bandsFit thresholds factors, badBands) ∷ (leb rate mostScore, badReading) ∷ [])
 
+abbrev pub noFactor : ℕ → Factored
+noFactor k = record { refusal = k; factor = pos 0 }
+
 -- a factor, or 0 beside the number of a refusal
 unfoldable pub withFactor : ℕ → ℤ → Factored
 withFactor k factor = record { refusal = k; factor = kept k factor (pos 0) }

@@ -12,6 +12,36 @@ pub struct Factored {
     pub factor: i64,
 }
 
+// 0, or 5 for bands against the rule.
+pub fn check(thresholds: &[i64], factors: &[i64]) -> u8
+    ensures { λ r. ⌜ r ≡ bandsRefusal (now (thresholds .entry)) (now (factors .entry)) ⌝ }
+{
+    whole::unless(fit(thresholds, factors), units::refusals::BAD_BANDS, 0)
+}
+
+// The factor of the first record whose threshold is at most the rate.
+pub fn factor(thresholds: &[i64], factors: &[i64], rate: u8) -> Factored
+    ensures { λ r. ⌜ r ≡ factorAnswer (now (thresholds .entry)) (now (factors .entry)) rate ⌝ }
+{
+    let fits = fit(thresholds, factors);
+    let rest = whole::unless(rate <= limits::SCORE, units::refusals::BAD_READING, 0);
+    let k = whole::unless(fits, units::refusals::BAD_BANDS, rest);
+    let found = whole::at(factors, first_place(thresholds, rate as i64));
+    with_factor(k, found)
+}
+
+fn fit(thresholds: &[i64], factors: &[i64]) -> bool
+    ensures { λ r. ⌜ r ≡ bandsFit (now (thresholds .entry)) (now (factors .entry)) ⌝ }
+{
+    (1 <= thresholds.len())
+        & (thresholds.len() <= limits::BANDS)
+        & (factors.len() == thresholds.len())
+        & whole::all_within(thresholds, 0, MOST_THRESHOLD)
+        & whole::all_within(factors, limits::LEAST_FACTOR, limits::MOST_FACTOR)
+        & fall(thresholds)
+        & whole::within(last_threshold(thresholds), 0, 0)
+}
+
 // Whether each threshold is above the next.
 fn fall(thresholds: &[i64]) -> bool
     ensures { λ r. ⌜ r ≡ fall (now (thresholds .entry)) ⌝ }
@@ -37,25 +67,6 @@ fn last_threshold(thresholds: &[i64]) -> i64
         return 0;
     }
     whole::at(thresholds, n - 1)
-}
-
-fn fit(thresholds: &[i64], factors: &[i64]) -> bool
-    ensures { λ r. ⌜ r ≡ bandsFit (now (thresholds .entry)) (now (factors .entry)) ⌝ }
-{
-    (1 <= thresholds.len())
-        & (thresholds.len() <= limits::BANDS)
-        & (factors.len() == thresholds.len())
-        & whole::all_within(thresholds, 0, MOST_THRESHOLD)
-        & whole::all_within(factors, limits::LEAST_FACTOR, limits::MOST_FACTOR)
-        & fall(thresholds)
-        & whole::within(last_threshold(thresholds), 0, 0)
-}
-
-// 0, or 5 for bands against the rule.
-pub fn check(thresholds: &[i64], factors: &[i64]) -> u8
-    ensures { λ r. ⌜ r ≡ bandsRefusal (now (thresholds .entry)) (now (factors .entry)) ⌝ }
-{
-    whole::unless(fit(thresholds, factors), units::refusals::BAD_BANDS, 0)
 }
 
 // The place of the first threshold that is at most the rate; their number, if there is none.
@@ -86,15 +97,4 @@ fn with_factor(k: u8, factor: i64) -> Factored
         refusal: k,
         factor: 0,
     }
-}
-
-// The factor of the first record whose threshold is at most the rate.
-pub fn factor(thresholds: &[i64], factors: &[i64], rate: u8) -> Factored
-    ensures { λ r. ⌜ r ≡ factorAnswer (now (thresholds .entry)) (now (factors .entry)) rate ⌝ }
-{
-    let fits = fit(thresholds, factors);
-    let rest = whole::unless(rate <= limits::SCORE, units::refusals::BAD_READING, 0);
-    let k = whole::unless(fits, units::refusals::BAD_BANDS, rest);
-    let found = whole::at(factors, first_place(thresholds, rate as i64));
-    with_factor(k, found)
 }

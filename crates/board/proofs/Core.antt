@@ -1,5 +1,4 @@
--- The calls in place: what a call that is refused leaves, and one that is let through, each once for the three calls that touch a place; and what an open leaves.
--- By the number. Assumes nothing.
+-- The calls in place: what a call at a place leaves, refused or let through; a call at the place of its day and hour; what an open answers and leaves; the total. By the number. Assumes nothing.
 use Prim.Native.Nat.{ℕ}
 use mathlib.Core.Path.{_≡_, refl, sym, ap, ap₂, _∙_}
 use mathlib.Core.Bool.{Bool, true, false}
@@ -14,24 +13,35 @@ use Rattle.whole.specs.Whole.{inRange}
 use Rattle.whole.proofs.Choice.{by-test, and-both, all-passed, kept-new, kept-old}
 use Rattle.units.specs.Limits.{isDays, monthPlaces}
 use Rattle.units.specs.Refusals.{wrongLength, badMoney, notInMonth}
-use Rattle.history.specs.Rules.{Deed, left}
-use Rattle.history.specs.Board.{Board, fresh, runsFit, totalOn, openRuling, openLeft, ledgerRefusal, ruledAt, handedAt, totalIn}
+use Rattle.history.specs.Rules.{Call, Deed, left}
+use Rattle.history.specs.Board.{Board, fresh, totalOn}
+use Rattle.history.specs.Inner.{runsFit, openRuling, openLeft, ledgerRefusal, ruledAt, handedAt, ruledIn, handedIn, totalIn}
+use Rattle.history.proofs.Board.{CameAt}
 use Rattle.head.specs.Rules.{Fee, Item, amountItem, monthRules}
-use Rattle.head.specs.Head.{boardIn, freshHead, openedHead}
+use Rattle.head.specs.Inner.{placeOf, boardIn, freshHead, openedHead}
 use Rattle.head.specs.declared.Head.{Head}
 use Rattle.head.specs.declared.Headed.{Headed}
-use Rattle.head.specs.declared.Place.{Place}
+use Rattle.head.proofs.HourPlaces.{place-for}
 use Rattle.board.specs.Board.{placeRuled, placeHanded, openedIn, toldOf}
 
-module _ (head : Head) (ms : List Bool) (xs : List ℤ) (place : Place) (deed : Deed Item) (k : ℕ) (is : k ≡ placeRuled head ms xs place deed) where
+module _ (head : Head) (ms : List Bool) (xs : List ℤ) (place : ℕ) (deed : Deed Item) (k : ℕ) (is : k ≡ placeRuled head ms xs place deed) where
   pub turned-away : (k ≡ 0 → ⊥) → boardIn head ms xs ≡ placeHanded head ms xs place deed
   unfolding handedAt
   turned-away f = sym (kept-old _ (boardIn head ms xs) (λ z. f (is ∙ z)))
 
-  pub let-through : k ≡ 0 → (ns : List Bool) (ys : List ℤ) → ns ≡ set ms (place .at) (left (monthRules (head .days)) deed .0)
-      → ys ≡ set xs (place .at) (left (monthRules (head .days)) deed .1) → boardIn head ns ys ≡ placeHanded head ms xs place deed
+  pub let-through : k ≡ 0 → (ns : List Bool) (ys : List ℤ) → ns ≡ set ms place (left (monthRules (head .days)) deed .0)
+      → ys ≡ set xs place (left (monthRules (head .days)) deed .1) → boardIn head ns ys ≡ placeHanded head ms xs place deed
   unfolding handedAt
   let-through z ns ys marks amounts = ap₂ (boardIn head) marks amounts ∙ sym (kept-new _ (boardIn head ms xs) (sym is ∙ z))
+
+-- a call at the place of its day and hour is the call by them
+pub call-at : (head : Head) (ms : List Bool) (xs : List ℤ) (d x : ℕ) (c : Call Fee Item) (deed : Deed Item) → CameAt (monthRules (head .days)) (boardIn head ms xs) d x (placeOf d x) (place-for (head .days) d x) c deed
+    → (place : ℕ) → place ≡ placeOf d x → (k : ℕ) (b : Board Fee Bool ℤ) → k ≡ placeRuled head ms xs place deed → b ≡ placeHanded head ms xs place deed
+    → (k ≡ ruledIn (monthRules (head .days)) (boardIn head ms xs) c) × (b ≡ handedIn (monthRules (head .days)) (boardIn head ms xs) c)
+call-at head ms xs d x c deed came place p k b number left = (
+  number ∙ ap (λ (q : ℕ). placeRuled head ms xs q deed) p ∙ came .0,
+  left ∙ ap (λ (q : ℕ). placeHanded head ms xs q deed) p ∙ came .1,
+)
 
 -- an open: its number is the ruling, and both runs are cleared or left
 module _ (days : ℕ) (ms : List Bool) (xs : List ℤ) where
@@ -93,7 +103,7 @@ module _ (days : ℕ) (b : Board Fee Bool ℤ) where
   total-told z = let all = sym (kept-new (totalOn (monthRules days) b) (pos 0) z) in λ i. toldOf (sym z i, all i)
 
 -- a withdrawal is refused as a replacement by 0 is: no ledger refuses that amount
-pub withdrawal : (head : Head) (ms : List Bool) (xs : List ℤ) (place : Place) (k : ℕ)
+pub withdrawal : (head : Head) (ms : List Bool) (xs : List ℤ) (place : ℕ) (k : ℕ)
     → k ≡ placeRuled head ms xs place (Deed.replaces (amountItem (pos 0))) → k ≡ placeRuled head ms xs place Deed.withdraws
 unfolding ruledAt inRange
 withdrawal head ms xs place k e = e

@@ -3,10 +3,10 @@
 use mathlib.Core.Path.{sym, ap, _∙_}
 use mathlib.Core.Bool.{Bool}
 use lib.IntN.{ℤ}
-use denote.Ref.{now}
 use Rattle.whole.specs.Determined.{Determined, LeftDetermined}
 use Rattle.history.specs.Board.{Board}
 use Rattle.head.specs.Rules.{Fee}
+use Rattle.board.specs.Calls.{lentMarks, lentAmounts}
 use Rattle.board.proofs.open_in.Reads as open-in-reads
 use Rattle.board.proofs.open_in.Kinds as open-in-kinds
 use Rattle.board.proofs.total_in.Reads as total-in-reads
@@ -25,28 +25,28 @@ use Rattle.board.proofs.hour_in.Kinds as hour-in-kinds
 post-in-determined : Determined 2 post-in-kinds.ps post-in-kinds.r post-in-reads.Post
 post-in-determined κs a x y s t p q = p .0 ∙ sym (q .0)
 
-post-in-marks-determined : LeftDetermined 2 post-in-kinds.ps post-in-kinds.r (λ κs s. now (s .1 .0)) post-in-reads.Post
+post-in-marks-determined : LeftDetermined 2 post-in-kinds.ps post-in-kinds.r (λ κs s. lentMarks s) post-in-reads.Post
 post-in-marks-determined κs a x y s t p q = ap (λ (b : Board Fee Bool ℤ). b .marks) (p .1 ∙ sym (q .1))
 
-post-in-amounts-determined : LeftDetermined 2 post-in-kinds.ps post-in-kinds.r (λ κs s. now (s .1 .1 .0)) post-in-reads.Post
+post-in-amounts-determined : LeftDetermined 2 post-in-kinds.ps post-in-kinds.r (λ κs s. lentAmounts s) post-in-reads.Post
 post-in-amounts-determined κs a x y s t p q = ap (λ (b : Board Fee Bool ℤ). b .amounts) (p .1 ∙ sym (q .1))
 
 replace-in-determined : Determined 2 replace-in-kinds.ps replace-in-kinds.r replace-in-reads.Post
 replace-in-determined κs a x y s t p q = p .0 ∙ sym (q .0)
 
-replace-in-marks-determined : LeftDetermined 2 replace-in-kinds.ps replace-in-kinds.r (λ κs s. now (s .1 .0)) replace-in-reads.Post
+replace-in-marks-determined : LeftDetermined 2 replace-in-kinds.ps replace-in-kinds.r (λ κs s. lentMarks s) replace-in-reads.Post
 replace-in-marks-determined κs a x y s t p q = ap (λ (b : Board Fee Bool ℤ). b .marks) (p .1 ∙ sym (q .1))
 
-replace-in-amounts-determined : LeftDetermined 2 replace-in-kinds.ps replace-in-kinds.r (λ κs s. now (s .1 .1 .0)) replace-in-reads.Post
+replace-in-amounts-determined : LeftDetermined 2 replace-in-kinds.ps replace-in-kinds.r (λ κs s. lentAmounts s) replace-in-reads.Post
 replace-in-amounts-determined κs a x y s t p q = ap (λ (b : Board Fee Bool ℤ). b .amounts) (p .1 ∙ sym (q .1))
 
 withdraw-in-determined : Determined 2 withdraw-in-kinds.ps withdraw-in-kinds.r withdraw-in-reads.Post
 withdraw-in-determined κs a x y s t p q = p .0 ∙ sym (q .0)
 
-withdraw-in-marks-determined : LeftDetermined 2 withdraw-in-kinds.ps withdraw-in-kinds.r (λ κs s. now (s .1 .0)) withdraw-in-reads.Post
+withdraw-in-marks-determined : LeftDetermined 2 withdraw-in-kinds.ps withdraw-in-kinds.r (λ κs s. lentMarks s) withdraw-in-reads.Post
 withdraw-in-marks-determined κs a x y s t p q = ap (λ (b : Board Fee Bool ℤ). b .marks) (p .1 ∙ sym (q .1))
 
-withdraw-in-amounts-determined : LeftDetermined 2 withdraw-in-kinds.ps withdraw-in-kinds.r (λ κs s. now (s .1 .1 .0)) withdraw-in-reads.Post
+withdraw-in-amounts-determined : LeftDetermined 2 withdraw-in-kinds.ps withdraw-in-kinds.r (λ κs s. lentAmounts s) withdraw-in-reads.Post
 withdraw-in-amounts-determined κs a x y s t p q = ap (λ (b : Board Fee Bool ℤ). b .amounts) (p .1 ∙ sym (q .1))
 
 hour-in-determined : Determined 1 hour-in-kinds.ps hour-in-kinds.r hour-in-reads.Post
@@ -61,8 +61,8 @@ total-in-determined κs a x y s t p q = p ∙ sym q
 open-in-determined : Determined 2 open-in-kinds.ps open-in-kinds.r open-in-reads.Post
 open-in-determined κs a x y s t p q = p .0 ∙ sym (q .0)
 
-open-in-marks-determined : LeftDetermined 2 open-in-kinds.ps open-in-kinds.r (λ κs s. now (s .1 .0)) open-in-reads.Post
+open-in-marks-determined : LeftDetermined 2 open-in-kinds.ps open-in-kinds.r (λ κs s. lentMarks s) open-in-reads.Post
 open-in-marks-determined κs a x y s t p q = p .1 .0 ∙ sym (q .1 .0)
 
-open-in-amounts-determined : LeftDetermined 2 open-in-kinds.ps open-in-kinds.r (λ κs s. now (s .1 .1 .0)) open-in-reads.Post
+open-in-amounts-determined : LeftDetermined 2 open-in-kinds.ps open-in-kinds.r (λ κs s. lentAmounts s) open-in-reads.Post
 open-in-amounts-determined κs a x y s t p q = p .1 .1 ∙ sym (q .1 .1)

@@ -3,16 +3,17 @@ use mathlib.Core.Path.{_≡_, refl, sym, ap, _∙_}
 use mathlib.Core.Bool.{Bool}
 use mathlib.Core.List.{List}
 use lib.IntN.{ℤ, pos}
-use denote.Ref.{now}
 use Rattle.whole.specs.Refused.{RefusedKeeps, RefusedBare}
 use Rattle.whole.proofs.Choice.{kept-old}
 use Rattle.whole.proofs.Refused.{number-left}
-use Rattle.history.specs.Board.{Board, handedAt, hourIn, totalIn}
+use Rattle.history.specs.Board.{Board}
+use Rattle.history.specs.Inner.{handedAt, hourIn, totalIn}
 use Rattle.units.specs.Units.{dollars}
 use Rattle.head.specs.Rules.{Fee}
-use Rattle.head.specs.Head.{boardIn, freshHead}
+use Rattle.head.specs.Inner.{boardIn, freshHead}
 use Rattle.head.specs.declared.Headed.{Headed}
 use Rattle.board.specs.Board.{openedIn}
+use Rattle.board.specs.Calls.{lentMarks, lentAmounts, lentRuns}
 use Rattle.board.proofs.Core.{open-refused, open-none}
 use Rattle.board.specs.declared.Told.{Told}
 use Rattle.board.proofs.post_in.Reads as post-in-reads
@@ -34,24 +35,24 @@ use Rattle.board.proofs.check_in.Kinds as check-in-kinds
 abbrev runs : Board Fee Bool ℤ → List Bool × List ℤ
 runs b = (b .marks, b .amounts)
 
-post-in-refused-keeps : RefusedKeeps 2 post-in-kinds.ps post-in-kinds.r {X = List Bool × List ℤ} (λ κs x. x) (λ κs a k. k) (λ κs a. (now (a .1 .0), now (a .1 .1 .0))) (λ κs s. (now (s .1 .0), now (s .1 .1 .0))) post-in-reads.Post
+post-in-refused-keeps : RefusedKeeps 2 post-in-kinds.ps post-in-kinds.r (λ κs x. x) (λ κs a k. k) (λ κs a. lentRuns a) (λ κs s. lentRuns s) post-in-reads.Post
 unfolding handedAt
-post-in-refused-keeps κs a x s p f = (refl, ap runs (number-left _ (boardIn (a .0) (now (a .1 .0)) (now (a .1 .1 .0))) (p .0) (p .1) f))
+post-in-refused-keeps κs a x s p f = (refl, ap runs (number-left _ (boardIn (a .0) (lentMarks a) (lentAmounts a)) (p .0) (p .1) f))
 
-replace-in-refused-keeps : RefusedKeeps 2 replace-in-kinds.ps replace-in-kinds.r {X = List Bool × List ℤ} (λ κs x. x) (λ κs a k. k) (λ κs a. (now (a .1 .0), now (a .1 .1 .0))) (λ κs s. (now (s .1 .0), now (s .1 .1 .0))) replace-in-reads.Post
+replace-in-refused-keeps : RefusedKeeps 2 replace-in-kinds.ps replace-in-kinds.r (λ κs x. x) (λ κs a k. k) (λ κs a. lentRuns a) (λ κs s. lentRuns s) replace-in-reads.Post
 unfolding handedAt
-replace-in-refused-keeps κs a x s p f = (refl, ap runs (number-left _ (boardIn (a .0) (now (a .1 .0)) (now (a .1 .1 .0))) (p .0) (p .1) f))
+replace-in-refused-keeps κs a x s p f = (refl, ap runs (number-left _ (boardIn (a .0) (lentMarks a) (lentAmounts a)) (p .0) (p .1) f))
 
-withdraw-in-refused-keeps : RefusedKeeps 2 withdraw-in-kinds.ps withdraw-in-kinds.r {X = List Bool × List ℤ} (λ κs x. x) (λ κs a k. k) (λ κs a. (now (a .1 .0), now (a .1 .1 .0))) (λ κs s. (now (s .1 .0), now (s .1 .1 .0))) withdraw-in-reads.Post
+withdraw-in-refused-keeps : RefusedKeeps 2 withdraw-in-kinds.ps withdraw-in-kinds.r (λ κs x. x) (λ κs a k. k) (λ κs a. lentRuns a) (λ κs s. lentRuns s) withdraw-in-reads.Post
 unfolding handedAt
-withdraw-in-refused-keeps κs a x s p f = (refl, ap runs (number-left _ (boardIn (a .0) (now (a .1 .0)) (now (a .1 .1 .0))) (p .0) (p .1) f))
+withdraw-in-refused-keeps κs a x s p f = (refl, ap runs (number-left _ (boardIn (a .0) (lentMarks a) (lentAmounts a)) (p .0) (p .1) f))
 
 -- a refused open has the head of no days
-open-in-refused-keeps : RefusedKeeps 2 open-in-kinds.ps open-in-kinds.r {X = List Bool × List ℤ} (λ κs x. x .refusal) (λ κs a k. record { refusal = k; head = freshHead 0 }) (λ κs a. (now (a .1 .0), now (a .1 .1 .0))) (λ κs s. (now (s .1 .0), now (s .1 .1 .0))) open-in-reads.Post
+open-in-refused-keeps : RefusedKeeps 2 open-in-kinds.ps open-in-kinds.r (λ κs x. x .refusal) (λ κs a k. record { refusal = k; head = freshHead 0 }) (λ κs a. lentRuns a) (λ κs s. lentRuns s) open-in-reads.Post
 open-in-refused-keeps κs a x s p f =
-    let number : openedIn (a .0) (now (a .1 .0)) (now (a .1 .1 .0)) .refusal ≡ 0 → ⊥ = λ z. f (ap (λ (h : Headed). h .refusal) (p .0) ∙ z) in
-    let left = sym (open-refused (a .0) (now (a .1 .0)) (now (a .1 .1 .0)) number) in
-    let none : x .head ≡ freshHead 0 = ap (λ (h : Headed). h .head) (p .0) ∙ open-none (a .0) (now (a .1 .0)) (now (a .1 .1 .0)) number in (
+    let number : openedIn (a .0) (lentMarks a) (lentAmounts a) .refusal ≡ 0 → ⊥ = λ z. f (ap (λ (h : Headed). h .refusal) (p .0) ∙ z) in
+    let left = sym (open-refused (a .0) (lentMarks a) (lentAmounts a) number) in
+    let none : x .head ≡ freshHead 0 = ap (λ (h : Headed). h .head) (p .0) ∙ open-none (a .0) (lentMarks a) (lentAmounts a) number in (
       (λ i. record { refusal = x .refusal; head = none i }),
       λ i. ((p .1 .0 ∙ ap (λ (b : Board Fee Bool ℤ). b .marks) left) i, (p .1 .1 ∙ ap (λ (b : Board Fee Bool ℤ). b .amounts) left) i),
     )

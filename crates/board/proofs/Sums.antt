@@ -11,13 +11,15 @@ use lib.Seq.{getD-take, getD-drop}
 use borrow.Author.Tests.{ltb-true, ltb-false, eqb-true, le-leb}
 use Rattle.whole.specs.Choice.{pick}
 use Rattle.whole.specs.Folds.{sumTo}
-use Rattle.whole.specs.Whole.{minus, Within, summable, summed}
+use Rattle.whole.specs.Whole.{minus, Within}
+use Rattle.whole.specs.Inner.{summable, summed}
 use Rattle.units.specs.Limits.{mostAmount, isAmount, mostLossFee, isLossFee, hoursOfDay, monthPlaces}
 use Rattle.whole.proofs.Choice.{and-both, both, passed}
 use Rattle.whole.proofs.Signed.{size-within}
 use Rattle.whole.proofs.Sums.{in-within, in-within-below, within-in, inside-all, sum-within, sum-part, summed-is}
 use Rattle.history.specs.Rules.{placesOf}
-use Rattle.history.specs.Board.{Board, wellFormed, runsFit, ledgerRefusal, totalOn}
+use Rattle.history.specs.Board.{Board, wellFormed, totalOn}
+use Rattle.history.specs.Inner.{runsFit, ledgerRefusal}
 use Rattle.history.proofs.Board.{Good, well-opens, ledger-good}
 use Rattle.head.proofs.Sound.{month-sound}
 use Rattle.head.specs.Rules.{Fee, amountRefusal, monthRules}

@@ -10,7 +10,7 @@ use Rattle.whole.specs.Folds.{allTo}
 use Rattle.units.specs.Limits.{monthPlaces}
 use Rattle.history.specs.Rules.{Deed, posts, replaces, placesOf}
 use Rattle.units.specs.Refusals.{wrongLength}
-use Rattle.head.specs.Head.{freshHead, openedHead}
+use Rattle.head.specs.Inner.{freshHead, openedHead}
 use Rattle.head.specs.declared.Headed.{Headed}
 use Rattle.head.specs.Rules.{Item, amountItem, amountRefusal, monthRules}
 

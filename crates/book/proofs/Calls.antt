@@ -11,9 +11,10 @@ use Rattle.whole.specs.Choice.{pick}
 use Rattle.whole.proofs.Choice.{clash, by-test, kept-new, kept-old}
 use Rattle.units.specs.Refusals.{wrongLength, notOpen}
 use Rattle.history.specs.Rules.{Call, post, replace, withdraw, lossFee, close}
-use Rattle.history.specs.Board.{Board, fresh, runsFit, openRuling, openLeft, ruledIn, handedIn}
+use Rattle.history.specs.Board.{Board, fresh}
+use Rattle.history.specs.Inner.{runsFit, openRuling, openLeft, ruledIn, handedIn}
 use Rattle.head.specs.Rules.{Fee, Item, amountItem, monthRules}
-use Rattle.head.specs.Head.{boardIn, freshHead}
+use Rattle.head.specs.Inner.{boardIn, freshHead}
 use Rattle.head.specs.declared.Head.{Head}
 use Rattle.head.specs.declared.Headed.{Headed}
 use Rattle.head.proofs.Heads.{Heads, heads-fee, heads-close}
@@ -22,20 +23,20 @@ use Rattle.board.proofs.Core.{open-number, open-head}
 use Rattle.frame.specs.Kinds.{openKind, postKind, replaceKind, withdrawKind, lossFeeKind, closeKind, usesHour}
 use Rattle.frame.specs.declared.Entry.{Entry}
 use Rattle.book.specs.Book.{Book, callOf, openRefusal, openBook, callRefusal, callBook, askedRefusal, askedBook, frameRefusal, frameBook}
-use Rattle.book.specs.Inner.{bookOf, placeCall, headCall, openTaken, headTaken}
+use Rattle.book.specs.Inner.{bookOf, placeCall, placeNumber, placeLeft, headCall, openTaken, headTaken}
 use Rattle.book.specs.declared.Cover.{Cover}
 use Rattle.book.specs.declared.Taken.{Taken}
 
 -- ---- the call of a frame, by its kind
 
 module _ (e : Entry) where
-  pub call-touches : usesHour (e .kind) ≡ true → callOf e ≡ some (placeCall e)
+  pub call-touches : usesHour (e .kind) ≡ true → callOf e ≡ placeCall e
   unfolding callOf
   call-touches u =
       go (post (e .day) (e .hour) (amountItem (e .amount .0))) (replace (e .day) (e .hour) (amountItem (e .amount .0))) (withdraw (e .day) (e .hour)) (headCall (e .kind) (e .amount .0))
       (eqb (e .kind) postKind) (eqb (e .kind) replaceKind) (eqb (e .kind) withdrawKind) u
     where
-      go : (a b c : Call Fee Item) (h : Option (Call Fee Item)) (p r w : Bool) → (p || r || w) ≡ true → pick p (some a) (pick r (some b) (pick w (some c) h)) ≡ some (pick p a (pick r b c))
+      go : (a b c : Call Fee Item) (h : Option (Call Fee Item)) (p r w : Bool) → (p || r || w) ≡ true → pick p (some a) (pick r (some b) (pick w (some c) h)) ≡ pick p (some a) (pick r (some b) (pick w (some c) none))
       go a b c h true r w u = refl
       go a b c h false true w u = refl
       go a b c h false false true u = refl
@@ -73,6 +74,16 @@ module _ (cover : Cover) (ms : List Bool) (xs : List ℤ) where
   unfolding callRefusal callBook
   called c head ns ys k o number board days =
       rw o (number, λ i. record { count = cover .count; opened = true; days = days i; board = board i })
+
+  -- ---- one that touches a place, or none
+
+  pub called-place : (c : Option (Call Fee Item)) (ns : List Bool) (ys : List ℤ) (k : ℕ) → cover .opened ≡ true
+      → k ≡ placeNumber (cover .head .days) (boardIn (cover .head) ms xs) c
+      → boardIn (cover .head) ns ys ≡ placeLeft (cover .head .days) (boardIn (cover .head) ms xs) c
+      → Came c k (bookOf cover ns ys)
+  called-place none ns ys k o number board =
+      (rw o number, λ i. record { count = cover .count; opened = cover .opened; days = cover .head .days; board = board i })
+  called-place (some c) ns ys k o number board = called c (cover .head) ns ys k o number board refl
 
   -- ---- one that touches no place
 

@@ -1,16 +1,15 @@
 -- Demand 1 of one line: a refusal gives its number only and leaves the cover and the two lent runs as they were. By what the line reads as. Assumes nothing.
 use mathlib.Core.Path.{_≡_, refl, _∙_}
-use mathlib.Core.Bool.{Bool, true, false}
-use mathlib.Core.List.{List}
+use mathlib.Core.Bool.{true, false}
 use mathlib.Core.Option.{Option, none, some}
 use lib.Dec.{eqb}
-use lib.IntN.{ℤ}
 use denote.Ref.{now}
 use Rattle.whole.specs.Refused.{RefusedKeeps}
 use Rattle.whole.proofs.Choice.{by-test, kept-old}
 use Rattle.history.specs.Rules.{Call}
-use Rattle.history.specs.Board.{ruledIn, handedIn}
+use Rattle.history.specs.Inner.{ruledIn, handedIn}
 use Rattle.head.specs.Rules.{Fee, Item, monthRules}
+use Rattle.board.specs.Calls.{lentMarks, lentAmounts, lentRuns}
 use Rattle.frame.specs.Kinds.{openKind}
 use Rattle.frame.specs.Frame.{readingOf}
 use Rattle.frame.specs.declared.Reading.{Reading}
@@ -38,8 +37,9 @@ reading-same book (Frame e) f =
     (λ (t : eqb (e .kind) openKind ≡ false). rw t (asked-same book (callOf e) (λ z. f (rw t z))))
 reading-same book (Refused n) f = refl
 
-take-refused-keeps : RefusedKeeps 3 take-kinds.ps take-kinds.r {X = List Bool × List ℤ} (λ κs x. x .refusal) (λ κs a k. record { refusal = k; cover = a .0 })
-    (λ κs a. (now (a .1 .1 .0), now (a .1 .1 .1 .0))) (λ κs s. (now (s .1 .1 .0), now (s .1 .1 .1 .0))) take-reads.Post
+-- the line stands between the cover and the runs
+take-refused-keeps : RefusedKeeps 3 take-kinds.ps take-kinds.r (λ κs x. x .refusal) (λ κs a k. record { refusal = k; cover = a .0 })
+    (λ κs a. lentRuns (a .1)) (λ κs s. lentRuns (s .1)) take-reads.Post
 take-refused-keeps κs a x s p f =
-    let same = p .1 ∙ reading-same (bookOf (a .0) (now (a .1 .1 .0)) (now (a .1 .1 .1 .0))) (readingOf (now (a .1 .0))) (λ z. f (p .0 ∙ z)) in
+    let same = p .1 ∙ reading-same (bookOf (a .0) (lentMarks (a .1)) (lentAmounts (a .1))) (readingOf (now (a .1 .0))) (λ z. f (p .0 ∙ z)) in
     ((λ i. record { refusal = x .refusal; cover = coverOf (same i) }), λ i. (same i .board .marks, same i .board .amounts))

@@ -2,13 +2,15 @@
 -- 1 is answered where they are not the ledger's.
 use Prim.Native.Nat.{ℕ}
 use mathlib.Core.Bool.{Bool, true, not}
+use mathlib.Core.List.{_∷_}
 use mathlib.Core.Option.{Option, none, some}
 use lib.Dec.{eqb}
 use lib.IntN.{ℤ}
-use Rattle.whole.specs.Choice.{pick, unless, kept}
+use Rattle.whole.specs.Choice.{pick, unless, inOrder, kept}
 use Rattle.units.specs.Refusals.{badKind, notOpen}
 use Rattle.history.specs.Rules.{Call, post, replace, withdraw, lossFee, close}
-use Rattle.history.specs.Board.{Board, fresh, openRuling, ruledIn, handedIn}
+use Rattle.history.specs.Board.{Board, fresh}
+use Rattle.history.specs.Inner.{openTests, ruledIn, handedIn}
 use Rattle.head.specs.Rules.{Fee, Item, amountItem, monthRules}
 use Rattle.frame.specs.Kinds.{openKind, postKind, replaceKind, withdrawKind, lossFeeKind, closeKind}
 use Rattle.frame.specs.declared.Entry.{Entry}
@@ -35,7 +37,7 @@ callOf e =
 
 -- an open: 14 where it is the second, then 1 and 6
 unfoldable pub openRefusal : Book → ℕ → ℕ
-openRefusal book days = unless (not (book .opened)) notOpen (openRuling (monthRules days) (book .board))
+openRefusal book days = inOrder ((not (book .opened), notOpen) ∷ openTests (monthRules days) (book .board))
 
 unfoldable pub openBook : Book → ℕ → Book
 openBook book days =

@@ -5,14 +5,16 @@ use mathlib.Core.List.{List}
 use mathlib.Core.Option.{Option, none, some}
 use lib.Dec.{eqb}
 use lib.IntN.{ℤ}
-use Rattle.whole.specs.Choice.{pick, unless, kept}
+use Rattle.whole.specs.Choice.{pick, kept}
 use Rattle.units.specs.Refusals.{wrongLength, badKind}
 use Rattle.units.specs.Units.{dollars}
 use Rattle.history.specs.Rules.{Call, post, replace, withdraw, lossFee, close}
-use Rattle.head.specs.Rules.{Fee, Item, amountItem}
-use Rattle.head.specs.Head.{boardIn, headedOf}
+use Rattle.history.specs.Board.{Board}
+use Rattle.history.specs.Inner.{ruledIn, handedIn}
+use Rattle.head.specs.Rules.{Fee, Item, amountItem, monthRules}
+use Rattle.head.specs.Inner.{boardIn, headedOf}
 use Rattle.head.specs.declared.Headed.{Headed}
-use Rattle.frame.specs.Kinds.{postKind, replaceKind, lossFeeKind, closeKind}
+use Rattle.frame.specs.Kinds.{postKind, replaceKind, withdrawKind, lossFeeKind, closeKind}
 use Rattle.frame.specs.declared.Entry.{Entry}
 use Rattle.frame.specs.declared.Reading.{Reading}
 use Rattle.frame.specs.declared.Reading.the-variants.{Frame, Refused}
@@ -40,11 +42,21 @@ abbrev pub refusalNumber : Reading → ℕ
 refusalNumber (Frame e) = 0
 refusalNumber (Refused n) = n
 
--- a call that touches a place
-abbrev pub placeCall : Entry → Call Fee Item
+-- a call that touches a place; any other kind is no such call
+abbrev pub placeCall : Entry → Option (Call Fee Item)
 placeCall e =
-    pick (eqb (e .kind) postKind) (post (e .day) (e .hour) (amountItem (e .amount .0)))
-    (pick (eqb (e .kind) replaceKind) (replace (e .day) (e .hour) (amountItem (e .amount .0))) (withdraw (e .day) (e .hour)))
+    pick (eqb (e .kind) postKind) (some (post (e .day) (e .hour) (amountItem (e .amount .0))))
+    (pick (eqb (e .kind) replaceKind) (some (replace (e .day) (e .hour) (amountItem (e .amount .0))))
+    (pick (eqb (e .kind) withdrawKind) (some (withdraw (e .day) (e .hour))) none))
+
+-- what it answers, 13 for no call, and the board that it leaves
+abbrev pub placeNumber : ℕ → Board Fee Bool ℤ → Option (Call Fee Item) → ℕ
+placeNumber days b none = badKind
+placeNumber days b (some c) = ruledIn (monthRules days) b c
+
+abbrev pub placeLeft : ℕ → Board Fee Bool ℤ → Option (Call Fee Item) → Board Fee Bool ℤ
+placeLeft days b none = b
+placeLeft days b (some c) = handedIn (monthRules days) b c
 
 -- a call that touches none
 abbrev pub headCall : ℕ → ℤ → Option (Call Fee Item)

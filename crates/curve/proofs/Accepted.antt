@@ -3,14 +3,15 @@ use mathlib.Core.Path.{_≡_, _∙_}
 use mathlib.Core.Bool.{true}
 use contract.Lifetimes.{Lfts}
 use denote.Triple.Clauses.{AtExit}
-use borrow.Fn.Kinds.{Dens, endedOf}
+use borrow.Fn.Kinds.{endedOf}
 use Rattle.units.specs.Limits.{isFrequency}
+use Rattle.units.specs.declared.Millihertz.{Millihertz}
 use Rattle.curve.specs.Curve.{upperAt, lowerAt}
 use Rattle.curve.specs.declared.Bounds.{Bounds}
 use Rattle.curve.proofs.Limits.{curve-is}
 use Rattle.curve.proofs.curve.Reads as curve
 use Rattle.curve.proofs.curve.Kinds as curve-kinds
 
-pub curve-accepted : (κs : Lfts 0) (a : Dens κs curve-kinds.ps) (x : Bounds) (s : AtExit (endedOf 0 curve-kinds.ps curve-kinds.r) κs) → curve.Post κs a x s
-    → isFrequency (a .0 .0) ≡ true → x ≡ record { refusal = 0; upper = upperAt (a .0 .0); lower = lowerAt (a .0 .0) }
-curve-accepted κs a x s p e = p ∙ curve-is (a .0) e
+pub curve-accepted : (κs : Lfts 0) (frequency : Millihertz) (x : Bounds) (s : AtExit (endedOf 0 curve-kinds.ps curve-kinds.r) κs)
+    → curve.Post κs (frequency, tt) x s → isFrequency (frequency .0) ≡ true → x ≡ record { refusal = 0; upper = upperAt (frequency .0); lower = lowerAt (frequency .0) }
+curve-accepted κs frequency x s p e = p ∙ curve-is frequency e

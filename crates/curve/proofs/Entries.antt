@@ -36,12 +36,12 @@ length-from : (f n : ℕ) → length (pairsFrom f n) ≡ 2 * n
 length-from f zero = refl
 length-from f (suc n) = omega (arith, length-from (suc f) n)
 
-pub length-pairs : length pairsOf ≡ 1002
+pub length-pairs : length pairsOf ≡ 2 * (lastPlace + 1)
 unfolding pairsOf
 length-pairs = length-from firstFrequency (lastPlace + 1)
 
 -- a table of as many entries as the pairs have, all of which agree with them, is theirs
-pub agrees : (table : List ℤ) → length table ≡ 1002 → agreed table pairsOf ≡ 1002 → table ≡ pairsOf
+pub agrees : (table : List ℤ) → length table ≡ 2 * (lastPlace + 1) → agreed table pairsOf ≡ 2 * (lastPlace + 1) → table ≡ pairsOf
 agrees table l a = all-agree table pairsOf (l ∙ sym length-pairs) (a ∙ sym length-pairs)
 
 pub record Pair (l : List ℤ) (k f : ℕ) : Type 0 where

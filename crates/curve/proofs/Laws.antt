@@ -9,7 +9,8 @@ use lib.Signed.{leZ}
 use Rattle.whole.specs.Whole.{minus, up, down, nearest, withSign, halfUp}
 use Rattle.whole.proofs.Choice.{by-test}
 use Rattle.whole.proofs.Signed.{signed, sum, difference}
-use Rattle.curve.specs.Curve.{reference, reach, Corner, corner, atDistance, upperAt, lowerAt, firstFrequency, lastPlace, placeBy, placeAt}
+use Rattle.curve.specs.Curve.{reference, reach, Corner, corner, atDistance, upperAt, lowerAt, firstFrequency, lastPlace}
+use Rattle.curve.specs.Inner.{placeBy, placeAt}
 
 -- the distance of the place that a distance is read at
 abbrev pub clip : ℤ → ℤ

@@ -14,7 +14,8 @@ use Rattle.whole.proofs.Folds.{all-at}
 use Rattle.whole.proofs.Sums.{in-within}
 use Rattle.units.specs.Limits.{isFrequency}
 use Rattle.units.specs.declared.Millihertz.{Millihertz}
-use Rattle.curve.specs.Curve.{reference, Corner, atDistance, upperAt, lowerAt, boundsAt, curveAt, firstFrequency, lastPlace, pairsOf, placeBy, placeAt}
+use Rattle.curve.specs.Curve.{reference, Corner, atDistance, upperAt, lowerAt, boundsAt, curveAt, firstFrequency, lastPlace, pairsOf, mostPercent}
+use Rattle.curve.specs.Inner.{placeBy, placeAt}
 use Rattle.curve.proofs.Entries.{entry, length-pairs}
 use Rattle.curve.proofs.Laws.{Ends, clipped, upper-placed, lower-placed}
 
@@ -24,21 +25,21 @@ place-within f = omega arith
 
 -- the bound at each of the table's distances is a percent
 abbrev isPercent : (Corner → ℤ) → ℕ → Bool
-isPercent percent k = inRange (minus 100) (pos 100) (atDistance percent (pos (firstFrequency + k) -ℤ pos reference))
+isPercent percent k = inRange (minus mostPercent) (pos mostPercent) (atDistance percent (pos (firstFrequency + k) -ℤ pos reference))
 
 abbrev Percents : (Corner → ℤ) → Type 0
 Percents percent = allTo (lastPlace + 1) (isPercent percent) ≡ true
 
 module _ (percent : Corner → ℤ) (ends : Ends percent) (percents : Percents percent) where
-  distance-within : (d : ℤ) → Within 100 (atDistance percent d)
+  distance-within : (d : ℤ) → Within mostPercent (atDistance percent d)
   distance-within d =
-      in-within {k = 100} (ap (inRange (minus 100) (pos 100)) (sym (clipped percent ends d)) ∙ all-at (lastPlace + 1) (isPercent percent) percents (placeBy d) (omega arith))
+      in-within {k = mostPercent} (ap (inRange (minus mostPercent) (pos mostPercent)) (sym (clipped percent ends d)) ∙ all-at (lastPlace + 1) (isPercent percent) percents (placeBy d) (omega arith))
 
-pub upper-within : (f : ℤ) → Within 100 (upperAt f)
+pub upper-within : (f : ℤ) → Within mostPercent (upperAt f)
 unfolding upperAt nearest withSign halfUp inRange foldTo
 upper-within f = distance-within (λ (c : Corner). c .upper) refl refl (f -ℤ pos reference)
 
-pub lower-within : (f : ℤ) → Within 100 (lowerAt f)
+pub lower-within : (f : ℤ) → Within mostPercent (lowerAt f)
 unfolding lowerAt nearest withSign halfUp inRange foldTo
 lower-within f = distance-within (λ (c : Corner). c .lower) refl refl (f -ℤ pos reference)
 

@@ -1,22 +1,25 @@
 -- Document 01, "The power curve" (document 001, table 1): upper and lower power in percent of capacity, straight between the corners. The table stands by distances
 -- from a reference frequency, which is 60 Hz.
-use Prim.Native.Nat.{ℕ, zero, suc, _+_, _*_, _-_, min}
+use Prim.Native.Nat.{ℕ, zero, suc, _+_, _*_, _-_}
 use mathlib.Core.List.{List, [], _∷_}
 use lib.IntN.{ℤ, pos, natAbs, _+ℤ_, _-ℤ_, _*ℤ_}
 use lib.Signed.{leZ}
 use Rattle.whole.specs.Choice.{pick}
-use Rattle.whole.specs.Whole.{minus, up, nearest}
+use Rattle.whole.specs.Whole.{minus, nearest}
 use Rattle.units.specs.Limits.{isFrequency}
 use Rattle.units.specs.Refusals.{badReading}
 use Rattle.units.specs.declared.Millihertz.{Millihertz}
 use Rattle.curve.specs.declared.Bounds.{Bounds}
 
--- the reference frequency, and how far from it the outer corners are, in millihertz
+-- the reference frequency, how far from it the outer corners are, in millihertz, and the percent there
 abbrev pub reference : ℕ
 reference = 60000
 
 abbrev pub reach : ℕ
 reach = 250
+
+abbrev pub mostPercent : ℕ
+mostPercent = 100
 
 -- a corner: its distance from the reference in millihertz, and the upper and the lower percent there
 pub record Corner : Type 0 where
@@ -43,12 +46,12 @@ along percent p (q ∷ qs) d =
 abbrev pub atDistance : (Corner → ℤ) → ℤ → ℤ
 atDistance percent =
     along percent
-    (corner (minus reach) (pos 100) (pos 100))
+    (corner (minus reach) (pos mostPercent) (pos mostPercent))
     (corner (minus 140) (pos 52) (pos 52)
     ∷ corner (minus 20) (pos 9) (minus 9)
     ∷ corner (pos 20) (pos 9) (minus 9)
     ∷ corner (pos 140) (minus 52) (minus 52)
-    ∷ corner (pos reach) (minus 100) (minus 100)
+    ∷ corner (pos reach) (minus mostPercent) (minus mostPercent)
     ∷ [])
 
 -- one of the two bounds of the frequency f, with the corners around a reference
@@ -64,12 +67,12 @@ lowerAt f = bound (λ (c : Corner). c .lower) (pos reference) f
 abbrev pub boundsAt : ℤ → Bounds
 boundsAt f = record { refusal = 0; upper = upperAt f; lower = lowerAt f }
 
+abbrev pub noBounds : ℕ → Bounds
+noBounds k = record { refusal = k; upper = pos 0; lower = pos 0 }
+
 -- the pair of a frequency in its range; others are refused with 4
 unfoldable pub curveAt : Millihertz → Bounds
-curveAt frequency =
-    pick (isFrequency (frequency .0))
-    (boundsAt (frequency .0))
-    (record { refusal = badReading; upper = pos 0; lower = pos 0 })
+curveAt frequency = pick (isFrequency (frequency .0)) (boundsAt (frequency .0)) (noBounds badReading)
 
 -- n pairs, an upper bound and its lower one, from the frequency f on
 abbrev pub pairsFrom : ℕ → ℕ → List ℤ
@@ -85,10 +88,3 @@ lastPlace = 2 * reach
 
 unfoldable pub pairsOf : List ℤ
 pairsOf = pairsFrom firstFrequency (lastPlace + 1)
-
--- the place among its pairs that a distance is read at, and so a frequency: below the table the first, above it the last
-abbrev pub placeBy : ℤ → ℕ
-placeBy d = min (up (d +ℤ pos reach)) lastPlace
-
-unfoldable pub placeAt : ℤ → ℕ
-placeAt f = placeBy (f -ℤ pos reference)

@@ -1,2 +1,3 @@
 -- The power curve.
 pub mod Curve
+pub mod Inner

@@ -1,4 +1,5 @@
-// The power curve: 501 pairs, upper and lower percent of capacity for each millihertz from 59,750 to 60,250. make_table.py prints this file.
+// The power curve: 501 pairs, upper and lower percent of capacity for each millihertz from 59,750 to
+// 60,250. make_table.py prints this file.
 pub const PAIRS: [i8; 1_002] = [
     100, // 59750 upper
     100, // 59750 lower

@@ -2,12 +2,10 @@
 -- of any ledger (crates/history, Reach): the month's calls can be made, and its days and its board are all of it. Assumes nothing.
 use Prim.Native.Nat.{ℕ}
 use mathlib.Core.Path.{_≡_, refl, sym, _∙_}
-use mathlib.Core.List.{List}
 use native.Mathlib.Omega.{arith}
 use lib.Dec.{eqb}
 use lib.ListN.{length}
 use contract.Lifetimes.{Lfts}
-use denote.Ref.{now}
 use denote.Triple.Clauses.{AtExit}
 use borrow.Author.Tests.{eqb-true}
 use Rattle.whole.specs.Choice.{unless}
@@ -17,7 +15,8 @@ use mathlib.Core.Logic.{_↔_}
 use mathlib.Core.Bool.{Bool, true, false}
 use lib.IntN.{ℤ}
 use Rattle.history.specs.Rules.{Call}
-use Rattle.history.specs.Board.{wellFormed, runsFit, ledgerRefusal, rulingOn, nextOn, handed, refusalOf, nextOf}
+use Rattle.history.specs.Board.{wellFormed, rulingOn, nextOn, handed, refusalOf, nextOf}
+use Rattle.history.specs.Inner.{runsFit, ledgerRefusal}
 use Rattle.history.specs.Demand.{Reachable, Just22, Exact22}
 use Rattle.history.proofs.Board.{Held}
 use Rattle.history.proofs.Reach.{Able, exact-22}
@@ -25,6 +24,7 @@ use Rattle.history.proofs.Reach.{reachable-iff as any-reachable-iff}
 use Rattle.units.specs.Limits.{monthPlaces}
 use Rattle.head.specs.Rules.{Fee, Item}
 use Rattle.month.specs.Month.{rulesOf, boardOf, monthOf, freshMonth, openOf, monthAnswer}
+use Rattle.month.specs.Inner.{monthIn}
 use Rattle.month.specs.declared.Month.{Month}
 use Rattle.head.proofs.Sound.{month-small}
 use Rattle.demand.specs.Ledger.{Answers, monthLedger}
@@ -32,7 +32,7 @@ use Rattle.demand.proofs.Demand.{month-laws}
 use denote.Struct.Laws.{owed}
 use borrow.Fn.Kinds.{Dens, GoodsP, endedOf}
 use borrow.Author.Needs.{length-unmapped}
-use Rattle.head.specs.declared.Head.{Head}
+use Rattle.board.specs.Calls.{lentMarks, lentAmounts}
 use Rattle.board.proofs.check_in.Reads as check-in-reads
 use Rattle.board.proofs.check_in.Kinds as check-in-kinds
 use Rattle.month.proofs.Month as month
@@ -76,15 +76,12 @@ module _ (m : Month) (typed : GoodsP tt total-kinds.ps (m, tt)) where
 
 -- ---- the test in place: on runs that are the ledger's, `board::check_in` answers 22 just where no run of calls hands the month of that head and those runs back
 
-abbrev monthIn : Head → List Bool → List ℤ → Month
-monthIn head marks amounts = record { days = head .days; closed = head .closed; fee = head .fee; marks = marks; amounts = amounts }
-
 pub check-in-22 : (κs : Lfts 1) (a : Dens κs check-in-kinds.ps) (k : ℕ) (s : AtExit (endedOf 1 check-in-kinds.ps check-in-kinds.r) κs) → check-in-reads.Post κs a k s →
-    let m = monthIn (a .0) (now (a .1 .0)) (now (a .1 .1 .0)) in
+    let m = monthIn (a .0) (lentMarks a) (lentAmounts a) in
     runsFit (rulesOf m) (boardOf m) ≡ true → Just22 monthLedger m k
 unfolding month-laws ledgerRefusal
 check-in-22 κs a k s p runs =
-    let m = monthIn (a .0) (now (a .1 .0)) (now (a .1 .1 .0)) in
+    let m = monthIn (a .0) (lentMarks a) (lentAmounts a) in
     let long = and-both (eqb (length (m .marks)) monthPlaces) (eqb (length (m .amounts)) monthPlaces) runs in
     let reach = any-reachable-iff monthLedger month-laws able m (record { marks = eqb-true (length (m .marks)) monthPlaces (long .0); amounts = eqb-true (length (m .amounts)) monthPlaces (long .1) }) in
     let number : k ≡ unless (wellFormed (rulesOf m) (boardOf m)) notReachable 0 = p ∙ rw runs in (

@@ -32,26 +32,18 @@ fn room() -> [u8; 32768]
     [0; 32768]
 }
 
-// No more than there are.
-fn within(n: usize, most: usize) -> usize
-    ensures { λ r. ⌜ r ≤ most ⌝ }
-{
-    if most < n {
-        return most;
-    }
-    n
-}
-
 // Feeds what stands from a place of the chunk on, and writes what that answers.
-fn feed_on(state: State, chunk: &[u8], from: usize, numbers: &mut [i64], out: &mut [u8]) -> Step {
-    let start = within(from, chunk.len());
-    let fed = replies::feed(state, &chunk[start..], numbers, out);
+fn feed_on(state: State, chunk: &[u8], from: usize, numbers: &mut [i64], out: &mut [u8]) -> Step
+    requires { ⌜ from ≤ length (now chunk) ⌝ }
+    ensures { λ r. ⌜ r .from ≤ length (now (chunk .entry)) ⌝ }
+{
+    let fed = replies::feed(state, &chunk[from..], numbers, out);
     let next = fed.state;
     let written = fed.written;
     let wrote = io::write_all(1, &out[..written]);
     Step {
         state: next,
-        from: start + fed.taken,
+        from: from + fed.taken,
         failed: !wrote,
     }
 }
@@ -93,12 +85,10 @@ fn read_once(state: State, input: &mut [u8], numbers: &mut [i64], out: &mut [u8]
     }
 }
 
-// The input's end, which a chunk of no bytes is, and what it answers.
+// The input's end, and what it answers.
 fn close(state: State, numbers: &mut [i64], out: &mut [u8]) -> bool {
-    let none = [0u8; 1];
-    let fed = replies::feed(state, &none[..0], numbers, out);
-    let written = fed.written;
-    io::write_all(1, &out[..written])
+    let finished = replies::finish(state, numbers, out);
+    io::write_all(1, &out[..finished.written])
 }
 
 // A read or a write that failed leaves the output without the answers that were to come.

@@ -6,26 +6,27 @@ use mathlib.Core.Bool.{Bool, true, false, _&&_}
 use mathlib.Core.List.{List, [], _∷_}
 use native.Mathlib.Omega.{arith}
 use lib.Dec.{eqb}
-use lib.IntN.{ℤ, pos, negℤ, _+ℤ_, _*ℤ_, *ℤ-zero}
+use lib.IntN.{ℤ, pos, natAbs, negℤ, _+ℤ_, _*ℤ_, *ℤ-zero}
 use lib.ListN.{length, getD, drop, length-take, length-drop}
 use lib.Seq.{getD-take, getD-drop}
 use lib.Signed.{ltZ}
-use borrow.Author.Tests.{eqb-true, eq-eqb, le-leb}
+use borrow.Author.Tests.{eqb-true, eq-eqb}
 use Rattle.whole.specs.Choice.{pick}
 use Rattle.whole.specs.Folds.{foldTo, sumTo, sumOf}
-use Rattle.whole.specs.Whole.{minus, Within, Between, nearest, withSign, halfUp, summable}
+use Rattle.whole.specs.Whole.{minus, Within, Between, nearest, withSign, halfUp}
 use Rattle.whole.proofs.Choice.{both, and-both, all-passed, kept-new}
 use Rattle.whole.proofs.Folds.{fold-same}
 use Rattle.whole.proofs.Rounding.{nearest-within}
 use Rattle.whole.proofs.Signed.{inside, opposite, product, sum, within-size}
 use Rattle.whole.proofs.Sums.{in-within, all-inside, inside-all, sum-within, sum-part}
 use Rattle.units.specs.Refusals.{wrongLength, badCapacity, badMoney, badReading, badBands, badTransfer}
-use Rattle.units.specs.Limits.{mostCapacity, isCapacity, mostPower, isPower, arePowers, areTransfers, isFactor, mostPrice, isPrice, mostFee, isFee, secondsOfHour, secondsOfQuarter}
+use Rattle.units.specs.Limits.{mostCapacity, isCapacity, mostPower, isPower, arePowers, areTransfers, leastFactor, isFactor, mostPrice, isPrice, mostFee, isFee, secondsOfHour, secondsOfQuarter}
 use Rattle.units.specs.declared.Kilowatts.{Kilowatts}
 use Rattle.units.specs.declared.Dollars.{Dollars}
-use Rattle.fees.specs.Fees.{chargeOf, noCharge, chargeBy, fee, chargeRefusal, feeAnswer, qualityPart, qualityRefusal, qualityAnswer, signedPrice, quarterPowers, quarterPart, energyParts, partsOfDollar, energyFee, mostEnergyFee, mostHourAmount, energyRefusal, energyAnswer, energyExact}
+use Rattle.fees.specs.Fees.{chargeOf, noCharge, chargeBy, fee, chargeRefusal, feeAnswer, qualityPart, qualityRefusal, qualityAnswer, signedPrice, quarterPowers, quarterPart, energyParts, partsOfDollar, energyFee, mostEnergyFee, mostQuality, mostHourAmount, energyRefusal, energyAnswer, energyExact}
 use Rattle.fees.specs.declared.Exact.{Exact}
-use Rattle.whole.proofs.Bounds.{to-within, from-zero, product-between, nearest-between, widen}
+use Rattle.fees.specs.Accepted.{FeeFits, QualityFits, EnergyFits}
+use Rattle.whole.proofs.Bounds.{to-within, from-zero, product-between, nearest-between}
 
 -- a fact of a granted amount and of 0 is one of the answer
 charge-has : (P : ℤ → Type 0) (k : ℕ) (amount : ℤ) → (k ≡ 0 → P amount) → P (pos 0) → P (chargeBy k amount .dollars .0)
@@ -40,10 +41,6 @@ nothing : (k : ℕ) → Within k (pos 0)
 nothing k = omega arith
 
 -- ---- capacity fee and performance fee
-
-pub record FeeFits (price : ℤ) (capacity : Kilowatts) : Type 0 where
-  pub size : isCapacity (capacity .0) ≡ true
-  pub money : isPrice price ≡ true
 
 pub fee-fits : (price : ℤ) (capacity : Kilowatts) → chargeRefusal price capacity ≡ 0 → FeeFits price capacity
 unfolding chargeRefusal
@@ -77,11 +74,6 @@ fee-within price capacity = to-within (fee-between price capacity)
 
 -- ---- quality part
 
-pub record QualityFits (capacity performance : Dollars) (factor : ℤ) : Type 0 where
-  pub first : isFee (capacity .0) ≡ true
-  pub second : isFee (performance .0) ≡ true
-  pub tenths : isFactor factor ≡ true
-
 pub quality-fits : (capacity performance : Dollars) (factor : ℤ) → qualityRefusal capacity performance factor ≡ 0 → QualityFits capacity performance factor
 unfolding qualityRefusal
 quality-fits capacity performance factor e =
@@ -100,16 +92,16 @@ fees-fit clearing performance capacity factor e =
     record { first = from-zero mostFee _ (fee-between clearing capacity); second = from-zero mostFee _ (fee-between performance capacity); tenths = e }
 
 -- both fees at most 2 x 10^7, and by the factor 4.8 x 10^9
-pub fees-within : {capacity performance : Dollars} {factor : ℤ} → QualityFits capacity performance factor → Within 20000000 (capacity .0 +ℤ performance .0)
+pub fees-within : {capacity performance : Dollars} {factor : ℤ} → QualityFits capacity performance factor → Within (2 * mostFee) (capacity .0 +ℤ performance .0)
 fees-within {capacity} {performance} f =
     let a = inside (f .first) in
     let b = inside (f .second) in
     omega (arith, sum (capacity .0) (performance .0))
 
-pub quality-product : {capacity performance : Dollars} {factor : ℤ} → QualityFits capacity performance factor → Within (20000000 * 240) ((capacity .0 +ℤ performance .0) *ℤ factor)
+pub quality-product : {capacity performance : Dollars} {factor : ℤ} → QualityFits capacity performance factor → Within (2 * mostFee * natAbs leastFactor) ((capacity .0 +ℤ performance .0) *ℤ factor)
 quality-product {factor = factor} f =
     let t = inside (f .tenths) in
-    let w : Within 240 factor = omega (arith, opposite (pos 240)) in
+    let w : Within (natAbs leastFactor) factor = omega (arith, opposite (pos (natAbs leastFactor))) in
     product (fees-within f) w
 
 pub quality-granted : {capacity performance : Dollars} {factor : ℤ} → QualityFits capacity performance factor
@@ -118,24 +110,16 @@ unfolding qualityAnswer
 quality-granted {capacity} {performance} {factor} f =
     kept-new (chargeOf (qualityPart (capacity .0) (performance .0) factor)) (noCharge (qualityRefusal capacity performance factor)) (quality-passes f)
 
-pub quality-within : (capacity performance : Dollars) (factor : ℤ) → Within 480000000 (qualityAnswer capacity performance factor .dollars .0)
+pub quality-within : (capacity performance : Dollars) (factor : ℤ) → Within mostQuality (qualityAnswer capacity performance factor .dollars .0)
 unfolding qualityAnswer qualityPart
 quality-within capacity performance factor =
-    charge-has (Within 480000000) (qualityRefusal capacity performance factor) (qualityPart (capacity .0) (performance .0) factor)
+    charge-has (Within mostQuality) (qualityRefusal capacity performance factor) (qualityPart (capacity .0) (performance .0) factor)
     (λ e.
-    nearest-within ((capacity .0 +ℤ performance .0) *ℤ factor) 10 480000000 (omega arith)
+    nearest-within ((capacity .0 +ℤ performance .0) *ℤ factor) 10 mostQuality (omega arith)
     (within-size (quality-product (quality-fits capacity performance factor e))))
-    (nothing 480000000)
+    (nothing mostQuality)
 
 -- ---- energy service fee
-
-pub record EnergyFits (powers targets : List ℤ) (discharge charge : ℤ) : Type 0 where
-  pub seconds : length powers ≡ secondsOfHour
-  pub quarters : length targets ≡ 4
-  pub discharging : isPrice discharge ≡ true
-  pub charging : isPrice charge ≡ true
-  pub transfers : areTransfers targets ≡ true
-  pub readings : arePowers powers ≡ true
 
 pub energy-fits : (powers targets : List ℤ) (discharge charge : ℤ) → energyRefusal powers targets discharge charge ≡ 0 → EnergyFits powers targets discharge charge
 unfolding energyRefusal
@@ -162,21 +146,20 @@ signed-price-within discharge charge target d c = by (ltZ (pos 0) target) (ltZ t
     by false false = nothing mostPrice
 
 module _ {powers targets : List ℤ} {discharge charge : ℤ} (f : EnergyFits powers targets discharge charge) where
-  quarter-length : (q : ℕ) → q < 4 → length (quarterPowers powers q) ≡ secondsOfQuarter
+  pub quarter-length : (q : ℕ) → q < 4 → length (quarterPowers powers q) ≡ secondsOfQuarter
   quarter-length q h = let l = f .seconds in simp (length-take, length-drop) (omega arith)
 
   reading : (n : ℕ) → n < secondsOfHour → isPower (getD powers n (pos 0)) ≡ true
   reading n h = let l = f .seconds in all-inside (minus mostPower) (pos mostPower) powers (f .readings) n (omega arith)
 
-  -- the sum of a quarter is taken, and is at most 900 x 200,000 = 1.8 x 10^8
-  pub quarter-summable : (q : ℕ) → q < 4 → summable (quarterPowers powers q) ≡ true
-  quarter-summable q h =
-      both (le-leb (length (quarterPowers powers q)) 1000000 (omega (arith, quarter-length q h)))
-      (inside-all (minus 1000000000000) (pos 1000000000000) (quarterPowers powers q)
+  -- a quarter's powers are in their range, and their sum is at most 900 x 200,000 = 1.8 x 10^8
+  pub quarter-powers : (q : ℕ) → q < 4 → arePowers (quarterPowers powers q) ≡ true
+  quarter-powers q h =
+      inside-all (minus mostPower) (pos mostPower) (quarterPowers powers q)
       (λ i l.
       let m : i < secondsOfQuarter = omega (arith, quarter-length q h) in
       rw (getD-take secondsOfQuarter (drop (q * secondsOfQuarter) powers) i (pos 0) m, getD-drop (q * secondsOfQuarter) powers i (pos 0))
-      (widen (minus mostPower) (pos mostPower) (minus 1000000000000) (pos 1000000000000) _ (omega arith) (omega arith) (reading (q * secondsOfQuarter + i) (omega arith)))))
+      (reading (q * secondsOfQuarter + i) (omega arith)))
 
   pub quarter-within : (q : ℕ) → q < 4 → Within (mostPower * secondsOfQuarter) (sumOf (quarterPowers powers q))
   quarter-within q h =
@@ -190,9 +173,9 @@ module _ {powers targets : List ℤ} {discharge charge : ℤ} (f : EnergyFits po
   part-within q h =
       product (quarter-within q h) (signed-price-within discharge charge (getD targets q (pos 0)) (f .discharging) (f .charging))
 
-  pub parts-within : (n : ℕ) → n ≤ 4 → Within 7200000000000000 (sumTo n (quarterPart powers targets discharge charge))
+  pub parts-within : (n : ℕ) → n ≤ 4 → Within (mostPower * secondsOfHour * mostPrice) (sumTo n (quarterPart powers targets discharge charge))
   parts-within n h =
-      let w : Within (1800000000000000 * n) (sumTo n (quarterPart powers targets discharge charge)) =
+      let w : Within (mostPower * secondsOfQuarter * mostPrice * n) (sumTo n (quarterPart powers targets discharge charge)) =
       sum-within n (quarterPart powers targets discharge charge) (λ q l. part-within q (omega arith)) in
       omega arith
 
@@ -229,7 +212,7 @@ pub amount-within : (capacity performance : Dollars) (factor : ℤ) (energy : Do
     → Within mostHourAmount (qualityAnswer capacity performance factor .dollars .0 +ℤ energy .0)
 amount-within capacity performance factor energy w = together _ _ (quality-within capacity performance factor) w
   where
-    together : (x y : ℤ) → Within 480000000 x → Within mostEnergyFee y → Within mostHourAmount (x +ℤ y)
+    together : (x y : ℤ) → Within mostQuality x → Within mostEnergyFee y → Within mostHourAmount (x +ℤ y)
     together x y v w = omega (arith, sum x y)
 
 -- an hour whose quarters are all unpaid has no energy service fee

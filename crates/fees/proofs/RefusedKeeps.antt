@@ -2,13 +2,13 @@
 -- refusal keeps. Assumes nothing.
 use Prim.Native.Nat.{ℕ}
 use mathlib.Core.Path.{_≡_, refl}
-use lib.IntN.{ℤ, pos}
+use lib.IntN.{ℤ}
 use denote.Ref.{now}
 use Rattle.whole.specs.Refused.{RefusedBare}
 use Rattle.whole.proofs.Refused.{refused-bare}
 use Rattle.fees.specs.declared.Charged.{Charged}
 use Rattle.fees.specs.declared.Exact.{Exact}
-use Rattle.fees.specs.Fees.{chargeOf, noCharge, chargeBy, fee, chargeRefusal, feeAnswer, qualityPart, qualityRefusal, qualityAnswer, energyFee, energyRefusal, energyAnswer, energyExact}
+use Rattle.fees.specs.Fees.{chargeOf, noCharge, chargeBy, fee, chargeRefusal, feeAnswer, qualityPart, qualityRefusal, qualityAnswer, energyFee, energyRefusal, energyAnswer, noParts, energyExact}
 use Rattle.fees.proofs.fee.Reads as fee-reads
 use Rattle.fees.proofs.fee.Kinds as fee-kinds
 use Rattle.fees.proofs.quality_part.Reads as quality-reads
@@ -24,18 +24,19 @@ charged-bare k amount x = refused-bare (λ (c : Charged). c .refusal) noCharge k
 
 fee-refused-keeps : RefusedBare 0 fee-kinds.ps fee-kinds.r (λ κs x. x .refusal) (λ κs a. noCharge) fee-reads.Post
 unfolding feeAnswer
-fee-refused-keeps κs a x s = charged-bare (chargeRefusal (a .0) (a .1 .0)) (fee (a .0) (a .1 .0 .0)) x
+fee-refused-keeps κs (price, (capacity, end)) x s = charged-bare (chargeRefusal price capacity) (fee price (capacity .0)) x
 
 quality-part-refused-keeps : RefusedBare 0 quality-kinds.ps quality-kinds.r (λ κs x. x .refusal) (λ κs a. noCharge) quality-reads.Post
 unfolding qualityAnswer
-quality-part-refused-keeps κs a x s = charged-bare (qualityRefusal (a .0) (a .1 .0) (a .1 .1 .0)) (qualityPart (a .0 .0) (a .1 .0 .0) (a .1 .1 .0)) x
+quality-part-refused-keeps κs (capacity, (performance, (factor, end))) x s =
+    charged-bare (qualityRefusal capacity performance factor) (qualityPart (capacity .0) (performance .0) factor) x
 
 energy-fee-refused-keeps : RefusedBare 2 energy-kinds.ps energy-kinds.r (λ κs x. x .refusal) (λ κs a. noCharge) energy-reads.Post
 unfolding energyAnswer
-energy-fee-refused-keeps κs a x s =
-    charged-bare (energyRefusal (now (a .0)) (now (a .1 .0)) (a .1 .1 .0) (a .1 .1 .1 .0)) (energyFee (now (a .0)) (now (a .1 .0)) (a .1 .1 .0) (a .1 .1 .1 .0)) x
+energy-fee-refused-keeps κs (powers, (targets, (discharge, (charge, end)))) x s =
+    charged-bare (energyRefusal (now powers) (now targets) discharge charge) (energyFee (now powers) (now targets) discharge charge) x
 
-energy-exact-refused-keeps : RefusedBare 2 exact-kinds.ps exact-kinds.r (λ κs x. x .refusal) (λ κs a k. record { refusal = k; parts = pos 0 }) exact-reads.Post
+energy-exact-refused-keeps : RefusedBare 2 exact-kinds.ps exact-kinds.r (λ κs x. x .refusal) (λ κs a. noParts) exact-reads.Post
 unfolding energyExact
-energy-exact-refused-keeps κs a x s =
-    refused-bare (λ (e : Exact). e .refusal) (λ k. record { refusal = k; parts = pos 0 }) (energyRefusal (now (a .0)) (now (a .1 .0)) (a .1 .1 .0) (a .1 .1 .1 .0)) _ refl refl
+energy-exact-refused-keeps κs (powers, (targets, (discharge, (charge, end)))) x s =
+    refused-bare (λ (e : Exact). e .refusal) noParts (energyRefusal (now powers) (now targets) discharge charge) _ refl refl

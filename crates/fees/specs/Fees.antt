@@ -1,16 +1,16 @@
 -- Document 01, "Fees of one hour". A price is hundredths of a dollar per MW and hour, or per MWh; each fee is one exact fraction, rounded once.
-use Prim.Native.Nat.{ℕ, _+_, _*_}
+use Prim.Native.Nat.{ℕ, _+_, _*_, _/_}
 use mathlib.Core.Bool.{_&&_}
 use mathlib.Core.List.{List, [], _∷_}
 use lib.Dec.{eqb}
-use lib.IntN.{ℤ, pos, negℤ, _+ℤ_, _*ℤ_}
+use lib.IntN.{ℤ, pos, negℤ, natAbs, _+ℤ_, _*ℤ_}
 use lib.ListN.{length, getD, take, drop}
 use lib.Signed.{ltZ}
 use Rattle.whole.specs.Choice.{pick, inOrder, kept}
 use Rattle.whole.specs.Folds.{sumTo, sumOf}
 use Rattle.whole.specs.Whole.{nearest}
 use Rattle.units.specs.Refusals.{wrongLength, badCapacity, badMoney, badReading, badBands, badTransfer}
-use Rattle.units.specs.Limits.{isCapacity, isPrice, mostFee, isFee, isFactor, arePowers, areTransfers, secondsOfHour, secondsOfQuarter}
+use Rattle.units.specs.Limits.{isCapacity, mostPrice, isPrice, mostFee, isFee, leastFactor, isFactor, mostPower, arePowers, areTransfers, secondsOfHour, secondsOfQuarter}
 use Rattle.units.specs.Units.{dollars}
 use Rattle.units.specs.declared.Kilowatts.{Kilowatts}
 use Rattle.units.specs.declared.Dollars.{Dollars}
@@ -81,12 +81,15 @@ partsOfDollar = 4 * secondsOfQuarter * 1000 * 100
 unfoldable pub energyFee : List ℤ → List ℤ → ℤ → ℤ → ℤ
 energyFee powers targets discharge charge = nearest (energyParts powers targets discharge charge) partsOfDollar
 
--- no fee is larger: 200 MW for an hour at 100,000 dollars; and no amount of an hour: both fees by the least factor, and that
+-- no fee is larger: the most power for an hour at the most price, in MW and dollars; no quality part: both fees by the least factor; and no amount of an hour
 abbrev pub mostEnergyFee : ℕ
-mostEnergyFee = 200 * 100000
+mostEnergyFee = mostPower / 1000 * (mostPrice / 100)
+
+abbrev pub mostQuality : ℕ
+mostQuality = 2 * mostFee * (natAbs leastFactor / 10)
 
 abbrev pub mostHourAmount : ℕ
-mostHourAmount = 2 * mostFee * 24 + mostEnergyFee
+mostHourAmount = mostQuality + mostEnergyFee
 
 -- 1, 3, 10, 4
 unfoldable pub energyRefusal : List ℤ → List ℤ → ℤ → ℤ → ℕ
@@ -102,8 +105,11 @@ unfoldable pub energyAnswer : List ℤ → List ℤ → ℤ → ℤ → Charged
 energyAnswer powers targets discharge charge =
     chargeBy (energyRefusal powers targets discharge charge) (energyFee powers targets discharge charge)
 
+abbrev pub noParts : ℕ → Exact
+noParts k = record { refusal = k; parts = pos 0 }
+
 -- what it is before it is rounded, or 0 beside the number of a refusal (document 02, #113)
 unfoldable pub energyExact : List ℤ → List ℤ → ℤ → ℤ → Exact
 energyExact powers targets discharge charge =
     let k = energyRefusal powers targets discharge charge in
-    kept k (record { refusal = 0; parts = energyParts powers targets discharge charge }) (record { refusal = k; parts = pos 0 })
+    kept k (record { refusal = 0; parts = energyParts powers targets discharge charge }) (noParts k)

@@ -1,2 +1,3 @@
 -- The fees of one hour.
 pub mod Fees
+pub mod Accepted

@@ -5,6 +5,7 @@ use mathlib.Core.List.{List, [], _∷_, _++_}
 use lib.IntN.{ℤ, pos}
 use lib.ListN.{replicate}
 use Rattle.whole.specs.Whole.{minus}
+use Rattle.units.specs.Limits.{secondsOfQuarter}
 use Rattle.curve.specs.Curve.{upperAt, lowerAt}
 use Rattle.ramp.specs.Ramp.{rampAt}
 use Rattle.score.specs.Score.{scoreOf}
@@ -47,7 +48,7 @@ side (x ∷ xs) (y ∷ ys) = figure (pos x) (pos y) ∷ side xs ys
 
 -- "means -3.0, -2.9, 0.1, -3.2 MW"
 abbrev pub charging : List ℤ
-charging = replicate 900 (minus 3000) ++ (replicate 900 (minus 2900) ++ (replicate 900 (pos 100) ++ replicate 900 (minus 3200)))
+charging = replicate secondsOfQuarter (minus 3000) ++ (replicate secondsOfQuarter (minus 2900) ++ (replicate secondsOfQuarter (pos 100) ++ replicate secondsOfQuarter (minus 3200)))
 
 abbrev pub chargingTargets : List ℤ
 chargingTargets = minus 3000 ∷ minus 3000 ∷ minus 3000 ∷ minus 3000 ∷ []

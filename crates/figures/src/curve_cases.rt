@@ -3,42 +3,6 @@ use crate::text;
 use units::Megawatts;
 use units::Millihertz;
 
-// A frequency, then refusal, upper and lower percent.
-fn show(label: &[u8], frequency: i64) {
-    let b = curve::curve(Millihertz(frequency));
-    io::write_all(1, label);
-    text::number(frequency);
-    text::number(b.refusal as i64);
-    text::number(b.upper);
-    text::number(b.lower);
-    text::end();
-}
-
-// Document 002, table 1.
-fn first_steps() {
-    show(b"F01", 60_010);
-    show(b"F02", 59_990);
-    show(b"F03", 60_020);
-    show(b"F04", 59_980);
-    show(b"F05", 60_070);
-    show(b"F06", 59_930);
-    show(b"F07", 60_140);
-    show(b"F08", 59_860);
-    show(b"F09", 60_200);
-}
-
-fn last_steps() {
-    show(b"F10", 59_800);
-    show(b"F11", 60_250);
-    show(b"F12", 59_750);
-    show(b"F13", 60_300);
-    show(b"F14", 59_700);
-    show(b"F15", 60_400);
-    show(b"F16", 59_600);
-    show(b"F17", 60_500);
-    show(b"F18", 59_500);
-}
-
 pub(crate) fn step_test() {
     text::heading(b"document 002, table 1: the step test");
     first_steps();
@@ -66,17 +30,6 @@ pub(crate) fn limits() {
     show(b"i64", i64::MAX);
 }
 
-// A megawatt figure, then refusal and kilowatts.
-fn convert(figure: i64) {
-    let c = units::to_kilowatts(Megawatts(figure));
-    let power = c.power;
-    io::write_all(1, b"MW");
-    text::number(figure);
-    text::number(c.refusal as i64);
-    text::number(power.0);
-    text::end();
-}
-
 pub(crate) fn conversion() {
     text::heading(b"megawatts to kilowatts");
     convert(5);
@@ -88,4 +41,52 @@ pub(crate) fn conversion() {
     convert(-101);
     convert(i64::MIN);
     convert(i64::MAX);
+}
+
+// Document 002, table 1: F01 to F09.
+fn first_steps() {
+    show(b"F01", 60_010);
+    show(b"F02", 59_990);
+    show(b"F03", 60_020);
+    show(b"F04", 59_980);
+    show(b"F05", 60_070);
+    show(b"F06", 59_930);
+    show(b"F07", 60_140);
+    show(b"F08", 59_860);
+    show(b"F09", 60_200);
+}
+
+// A frequency, then refusal, upper and lower percent.
+fn show(label: &[u8], frequency: i64) {
+    let b = curve::curve(Millihertz(frequency));
+    io::write_all(1, label);
+    text::number(frequency);
+    text::number(b.refusal as i64);
+    text::number(b.upper);
+    text::number(b.lower);
+    text::end();
+}
+
+// And from F10 on.
+fn last_steps() {
+    show(b"F10", 59_800);
+    show(b"F11", 60_250);
+    show(b"F12", 59_750);
+    show(b"F13", 60_300);
+    show(b"F14", 59_700);
+    show(b"F15", 60_400);
+    show(b"F16", 59_600);
+    show(b"F17", 60_500);
+    show(b"F18", 59_500);
+}
+
+// A megawatt figure, then refusal and kilowatts.
+fn convert(figure: i64) {
+    let c = units::to_kilowatts(Megawatts(figure));
+    let power = c.power;
+    io::write_all(1, b"MW");
+    text::number(figure);
+    text::number(c.refusal as i64);
+    text::number(power.0);
+    text::end();
 }

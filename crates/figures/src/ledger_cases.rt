@@ -1,7 +1,93 @@
 // The month ledger: the cases that a desk would try by hand.
 use crate::text;
+use head::Head;
 use month::Month;
 use units::Dollars;
+
+pub(crate) fn a_month() {
+    text::heading(b"a month by hand");
+    let m = posted();
+    let m = changed(m);
+    closed(m);
+}
+
+// Days, hours, amounts and fees at and past their limits.
+pub(crate) fn limits() {
+    text::heading(b"the ledger at and past the limits");
+    lengths();
+    let m = book(b"open 30", Month::open(30));
+    days_and_hours(m);
+    amounts(m);
+    loss_fees(m);
+}
+
+pub(crate) fn largest() {
+    text::heading(b"the largest month");
+    let most = full(1_000_000_000);
+    book(
+        b"most and the largest fee",
+        most.loss_fee(Dollars(100_000_000_000)),
+    );
+    read_out(most);
+    let least = full(-1_000_000_000);
+    book(
+        b"least and the largest fee",
+        least.loss_fee(Dollars(100_000_000_000)),
+    );
+    read_out(least);
+}
+
+pub(crate) fn forged() {
+    let mut m = opened(30);
+    m.amounts[0] = 1;
+    forge(b"forged: an amount in an empty place", m);
+    let mut m = opened(30);
+    m.marks[720] = true;
+    forge(b"forged: a filled place past the month's end", m);
+    let mut m = opened(30);
+    m.days = 27;
+    forge(b"forged: 27 days", m);
+    let mut m = opened(30);
+    let fee = Dollars(-1);
+    m.fee = fee;
+    forge(b"forged: a fee below 0", m);
+    let mut m = opened(30);
+    m.marks[5] = true;
+    m.amounts[5] = 1_000_000_001;
+    forge(b"forged: an amount past the limit", m);
+    forge(b"forged: what a refused open hands back", opened(0));
+}
+
+// Calls in place at any number given for a place, in a month of 28 days: one that no hour of the month has is refused.
+pub(crate) fn in_place() {
+    text::heading(b"in place, past the month");
+    let mut marks = [false; units::limits::PLACES];
+    let mut amounts = [0i64; units::limits::PLACES];
+    let opened = board::open_in(28, &mut marks, &mut amounts);
+    let head = opened.head;
+    post_at(b"first", head, &mut marks, &mut amounts, 0);
+    post_at(b"last", head, &mut marks, &mut amounts, 671);
+    post_at(b"past the month", head, &mut marks, &mut amounts, 672);
+    post_at(b"last place", head, &mut marks, &mut amounts, 743);
+    post_at(b"past every place", head, &mut marks, &mut amounts, 744);
+    post_at(b"usize", head, &mut marks, &mut amounts, usize::MAX);
+    let total = board::total_in(head, &marks, &amounts);
+    let amount = total.amount;
+    io::write_all(1, b"total");
+    text::number(total.refusal as i64);
+    text::number(amount.0);
+    text::end();
+}
+
+// Document 01's sample: a post, a second one at the same hour, a loss fee.
+fn posted() -> Month {
+    let m = book(b"open 31", Month::open(31));
+    let m = book(b"post", m.post(3, 10, Dollars(7_800)));
+    let m = book(b"post again", m.post(3, 10, Dollars(6_280)));
+    let m = book(b"loss fee", m.loss_fee(Dollars(8_658)));
+    read_out(m);
+    m
+}
 
 // A call's refusal, then the month total after it.
 fn book(label: &[u8], answer: month::Booked) -> Month {
@@ -38,16 +124,6 @@ fn read_out(m: Month) {
     text::end();
 }
 
-// Document 01's sample: a post, a second one at the same hour, a loss fee.
-fn posted() -> Month {
-    let m = book(b"open 31", Month::open(31));
-    let m = book(b"post", m.post(3, 10, Dollars(7_800)));
-    let m = book(b"post again", m.post(3, 10, Dollars(6_280)));
-    let m = book(b"loss fee", m.loss_fee(Dollars(8_658)));
-    read_out(m);
-    m
-}
-
 // A withdrawn hour posts again.
 fn changed(m: Month) -> Month {
     let m = book(b"replace", m.replace(3, 10, Dollars(6_280)));
@@ -69,13 +145,6 @@ fn closed(m: Month) {
     let m = book(b"withdraw closed", m.withdraw(3, 10));
     let m = book(b"fee closed", m.loss_fee(Dollars(1)));
     read_out(m);
-}
-
-pub(crate) fn a_month() {
-    text::heading(b"a month by hand");
-    let m = posted();
-    let m = changed(m);
-    closed(m);
 }
 
 fn lengths() {
@@ -109,16 +178,6 @@ fn loss_fees(m: Month) {
     book(b"fee i64", m.loss_fee(Dollars(i64::MAX)));
 }
 
-// Days, hours, amounts and fees at and past their limits.
-pub(crate) fn limits() {
-    text::heading(b"the ledger at and past the limits");
-    lengths();
-    let m = book(b"open 30", Month::open(30));
-    days_and_hours(m);
-    amounts(m);
-    loss_fees(m);
-}
-
 // A month with every hour posted.
 fn full(amount: i64) -> Month {
     let opened = Month::open(31);
@@ -132,20 +191,9 @@ fn full(amount: i64) -> Month {
     m
 }
 
-pub(crate) fn largest() {
-    text::heading(b"the largest month");
-    let most = full(1_000_000_000);
-    book(
-        b"most and the largest fee",
-        most.loss_fee(Dollars(100_000_000_000)),
-    );
-    read_out(most);
-    let least = full(-1_000_000_000);
-    book(
-        b"least and the largest fee",
-        least.loss_fee(Dollars(100_000_000_000)),
-    );
-    read_out(least);
+fn opened(days: u8) -> Month {
+    let b = Month::open(days);
+    b.month
 }
 
 // A ledger that no run of calls hands back: every call and every read-out is 22.
@@ -159,28 +207,13 @@ fn forge(label: &[u8], m: Month) {
     read_out(m);
 }
 
-fn opened(days: u8) -> Month {
-    let b = Month::open(days);
-    b.month
-}
-
-pub(crate) fn forged() {
-    let mut m = opened(30);
-    m.amounts[0] = 1;
-    forge(b"forged: an amount in an empty place", m);
-    let mut m = opened(30);
-    m.marks[720] = true;
-    forge(b"forged: a filled place past the month's end", m);
-    let mut m = opened(30);
-    m.days = 27;
-    forge(b"forged: 27 days", m);
-    let mut m = opened(30);
-    let fee = Dollars(-1);
-    m.fee = fee;
-    forge(b"forged: a fee below 0", m);
-    let mut m = opened(30);
-    m.marks[5] = true;
-    m.amounts[5] = 1_000_000_001;
-    forge(b"forged: an amount past the limit", m);
-    forge(b"forged: what a refused open hands back", opened(0));
+// A post in place, and what stands there after it.
+fn post_at(label: &[u8], head: Head, marks: &mut [bool], amounts: &mut [i64], place: usize) {
+    io::write_all(1, label);
+    text::number(board::post_in(head, marks, amounts, place, Dollars(5)) as i64);
+    let told = board::hour_in(head, marks, amounts, place);
+    let amount = told.amount;
+    text::number(told.refusal as i64);
+    text::number(amount.0);
+    text::end();
 }

@@ -1,4 +1,5 @@
-// Runs the papers' figures of one rule or of the ledger that are not theorems; crates/figures/stdout has what the papers print.
+// Runs the papers' figures of one rule or of the ledger that are not theorems; crates/figures/stdout has what the
+// papers print.
 mod bands_cases;
 mod curve_cases;
 mod ledger_cases;
@@ -16,6 +17,7 @@ fn main() {
     ledger_cases::limits();
     ledger_cases::largest();
     ledger_cases::forged();
+    ledger_cases::in_place();
     ramp_cases::table();
     ramp_cases::refused();
     score_cases::seconds();

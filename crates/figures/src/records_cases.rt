@@ -13,18 +13,25 @@ struct Told {
     found: Factored,
 }
 
-// The first n records of a list, lent to both.
-fn asked(list: [Band; 17], n: usize, rate: u8) -> Told
+pub(crate) fn records() {
+    text::heading(b"records");
+    of_list_s(b"list S", 7, 100);
+    of_list_s(b"list S", 7, 95);
+    of_list_s(b"list S", 7, 94);
+    of_list_s(b"list S", 7, 70);
+    of_list_s(b"list S", 7, 69);
+    of_list_s(b"list S", 7, 0);
+    of_list_s(b"list S", 7, 101);
+    of_list_s(b"last not 0", 6, 95);
+    of_list_s(b"none", 0, 95);
+    changed();
+}
+
+// The first n records of list S.
+fn of_list_s(label: &[u8], n: usize, rate: u8)
     requires { ⌜ n ≤ 17 ⌝ }
-    ensures { λ r. ⌜ r ≡ record { check = recordsRefusal (take n list); found = recordsAnswer (take n list) rate } ⌝ }
 {
-    let records = &list[..n];
-    let check = records::check_bands(records);
-    let found = records::factor_of(records, rate);
-    Told {
-        check: check,
-        found: found,
-    }
+    show(label, list_s(), n, rate);
 }
 
 fn show(label: &[u8], list: [Band; 17], n: usize, rate: u8)
@@ -40,10 +47,17 @@ fn show(label: &[u8], list: [Band; 17], n: usize, rate: u8)
     text::end();
 }
 
-fn band(threshold: i64, factor: i64) -> Band {
-    Band {
-        threshold: threshold,
-        factor: factor,
+// The first n records of a list, lent to both.
+fn asked(list: [Band; 17], n: usize, rate: u8) -> Told
+    requires { ⌜ n ≤ 17 ⌝ }
+    ensures { λ r. ⌜ r ≡ record { check = recordsRefusal (take n list); found = recordsAnswer (take n list) rate } ⌝ }
+{
+    let records = &list[..n];
+    let check = records::check_bands(records);
+    let found = records::factor_of(records, rate);
+    Told {
+        check: check,
+        found: found,
     }
 }
 
@@ -59,6 +73,23 @@ fn list_s() -> [Band; 17] {
     list[5] = band(70, 0);
     list[6] = band(0, -10);
     list
+}
+
+fn band(threshold: i64, factor: i64) -> Band {
+    Band {
+        threshold: threshold,
+        factor: factor,
+    }
+}
+
+fn changed() {
+    let mut list = list_s();
+    list[1] = band(95, 8);
+    show(b"equal thresholds", list, 7, 94);
+    let mut many = seventeen();
+    show(b"seventeen", many, 17, 95);
+    many[15] = band(0, -5);
+    show(b"sixteen", many, 16, 69);
 }
 
 // Seventeen that fall to 0.
@@ -82,35 +113,4 @@ fn seventeen() -> [Band; 17] {
     list[14] = band(20, -4);
     list[15] = band(10, -5);
     list
-}
-
-// The first n records of list S.
-fn of_list_s(label: &[u8], n: usize, rate: u8)
-    requires { ⌜ n ≤ 17 ⌝ }
-{
-    show(label, list_s(), n, rate);
-}
-
-fn changed() {
-    let mut list = list_s();
-    list[1] = band(95, 8);
-    show(b"equal thresholds", list, 7, 94);
-    let mut many = seventeen();
-    show(b"seventeen", many, 17, 95);
-    many[15] = band(0, -5);
-    show(b"sixteen", many, 16, 69);
-}
-
-pub(crate) fn records() {
-    text::heading(b"records");
-    of_list_s(b"list S", 7, 100);
-    of_list_s(b"list S", 7, 95);
-    of_list_s(b"list S", 7, 94);
-    of_list_s(b"list S", 7, 70);
-    of_list_s(b"list S", 7, 69);
-    of_list_s(b"list S", 7, 0);
-    of_list_s(b"list S", 7, 101);
-    of_list_s(b"last not 0", 6, 95);
-    of_list_s(b"none", 0, 95);
-    changed();
 }

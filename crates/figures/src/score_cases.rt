@@ -2,24 +2,7 @@
 use crate::text;
 use units::Kilowatts;
 use units::Millihertz;
-
-// Power, transfer, capacity and frequency, then refusal and score.
-fn show(power: i64, transfer: i64, capacity: i64, frequency: i64) {
-    let s = score::second_score(
-        Kilowatts(power),
-        Kilowatts(transfer),
-        Kilowatts(capacity),
-        Millihertz(frequency),
-    );
-    io::write_all(1, b"second");
-    text::number(power);
-    text::number(transfer);
-    text::number(capacity);
-    text::number(frequency);
-    text::byte(s.refusal);
-    text::byte(s.score);
-    text::end();
-}
+use units::limits;
 
 // Document 001, example 2, and halves of a percent on either side.
 pub(crate) fn seconds() {
@@ -60,6 +43,53 @@ pub(crate) fn limits() {
     show(0, 0, 1, i64::MAX);
 }
 
+pub(crate) fn rates() {
+    text::heading(b"document 001, table 2: rolling rates and the hourly rate");
+    table_2();
+    stumbles();
+    lengths();
+}
+
+// Power, transfer, capacity and frequency, then refusal and score.
+fn show(power: i64, transfer: i64, capacity: i64, frequency: i64) {
+    let s = score::second_score(
+        Kilowatts(power),
+        Kilowatts(transfer),
+        Kilowatts(capacity),
+        Millihertz(frequency),
+    );
+    io::write_all(1, b"second");
+    text::number(power);
+    text::number(transfer);
+    text::number(capacity);
+    text::number(frequency);
+    text::byte(s.refusal);
+    text::byte(s.score);
+    text::end();
+}
+
+fn table_2() {
+    let mut scores = [0u8; limits::SECONDS];
+    let eleven = [100u8, 90, 50, 90, 90, 70, 95, 100, 100, 60, 100];
+    repeat(&eleven, &mut scores, 0, limits::SECONDS);
+    rate(b"table 2 over and over", &scores);
+}
+
+// Eleven scores over and over, from a place on, up to another or the run's end.
+fn repeat(eleven: &[u8], scores: &mut [u8], from: usize, to: usize) {
+    let mut i = from;
+    while i < scores.len() {
+        let old = scores[i];
+        let score = chosen_score(i < to, at(eleven, i % 11), old);
+        scores[i] = score;
+        i += 1;
+    }
+}
+
+fn chosen_score(taken: bool, score: u8, old: u8) -> u8 {
+    if taken { score } else { old }
+}
+
 // The score at a place, and 0 past the end.
 fn at(pattern: &[u8], place: usize) -> u8 {
     if place < pattern.len() {
@@ -68,44 +98,12 @@ fn at(pattern: &[u8], place: usize) -> u8 {
     0
 }
 
-// The eleven scores of table 2 over and over.
-fn repeat(pattern: &[u8], scores: &mut [u8]) {
-    let mut i = 0;
-    while i < scores.len() {
-        let score = at(pattern, i % 11);
-        scores[i] = score;
-        i += 1;
-    }
-}
-
 fn rate(label: &[u8], scores: &[u8]) {
     let r = rate::hourly_rate(scores);
     io::write_all(1, label);
     text::byte(r.refusal);
     text::byte(r.rate);
     text::end();
-}
-
-fn chosen_score(taken: bool, score: u8, old: u8) -> u8 {
-    if taken { score } else { old }
-}
-
-// The same score from a place on, up to another or the run's end.
-fn score_stretch(run: &mut [u8], from: usize, to: usize, score: u8) {
-    let mut i = from;
-    while i < run.len() {
-        let old = run[i];
-        let x = chosen_score(i < to, score, old);
-        run[i] = x;
-        i += 1;
-    }
-}
-
-// An hour of 100 with one score from a place on, up to another.
-fn stumble(label: &[u8], from: usize, to: usize, score: u8) {
-    let mut scores = [100u8; 3600];
-    score_stretch(&mut scores, from, to, score);
-    rate(label, &scores);
 }
 
 fn stumbles() {
@@ -120,11 +118,11 @@ fn stumbles() {
     stumble(b"a score of 255", 0, 1, 255);
 }
 
-fn table_2() {
-    let mut scores = [0u8; 3600];
-    let eleven = [100u8, 90, 50, 90, 90, 70, 95, 100, 100, 60, 100];
-    repeat(&eleven, &mut scores);
-    rate(b"table 2 over and over", &scores);
+// An hour of 100 with one score from a place on, up to another.
+fn stumble(label: &[u8], from: usize, to: usize, score: u8) {
+    let mut scores = [100u8; limits::SECONDS];
+    repeat(&[score; 11], &mut scores, from, to);
+    rate(label, &scores);
 }
 
 fn lengths() {
@@ -134,11 +132,4 @@ fn lengths() {
     rate(b"3,601 scores of 101", &long);
     let none = [0u8; 0];
     rate(b"no score", &none);
-}
-
-pub(crate) fn rates() {
-    text::heading(b"document 001, table 2: rolling rates and the hourly rate");
-    table_2();
-    stumbles();
-    lengths();
 }

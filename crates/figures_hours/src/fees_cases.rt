@@ -4,21 +4,7 @@ use crate::text;
 use fees::Charged;
 use units::Dollars;
 use units::Kilowatts;
-
-fn answer(c: Charged) {
-    let dollars = c.dollars;
-    text::byte(c.refusal);
-    text::number(dollars.0);
-    text::end();
-}
-
-// A price in hundredths and a capacity, then refusal and dollars.
-fn fee(price: i64, capacity: i64) {
-    io::write_all(1, b"fee");
-    text::number(price);
-    text::number(capacity);
-    answer(fees::fee(price, Kilowatts(capacity)));
-}
+use units::limits;
 
 // Document 001, example 1; 443 dollars for 10 MW; a half; the limits.
 pub(crate) fn of_capacity() {
@@ -37,15 +23,6 @@ pub(crate) fn of_capacity() {
     fee(10_000_001, 0);
     fee(i64::MAX, i64::MIN);
     fee(i64::MIN, 1);
-}
-
-// Both fees and a factor in tenths, then refusal and dollars.
-fn quality(capacity: i64, performance: i64, factor: i64) {
-    io::write_all(1, b"quality part");
-    text::number(capacity);
-    text::number(performance);
-    text::number(factor);
-    answer(fees::quality_part(Dollars(capacity), Dollars(performance), factor));
 }
 
 pub(crate) fn quality_parts() {
@@ -69,61 +46,11 @@ pub(crate) fn quality_parts() {
     quality(i64::MIN, i64::MAX, i64::MIN);
 }
 
-// The energy service fee of an hour by its quarters' means.
-fn energy(label: &[u8], means: [i64; 4], target: i64, discharge: i64, charge: i64) {
-    let mut powers = [means[0]; 3600];
-    readings::stretch(&mut powers, 900, 1_800, means[1]);
-    readings::stretch(&mut powers, 1_800, 2_700, means[2]);
-    readings::stretch(&mut powers, 2_700, 3_600, means[3]);
-    charged(label, &powers, target, discharge, charge);
-}
-
-fn charged(label: &[u8], powers: &[i64], target: i64, discharge: i64, charge: i64) {
-    let targets = [target, target, target, target];
-    io::write_all(1, label);
-    answer(fees::energy_fee(powers, &targets, discharge, charge));
-}
-
 // An hour at one power, with the target that its sign asks for.
 pub(crate) fn steady_energy(power: i64, target: i64) -> Charged {
     let targets = [target, target, target, target];
-    let powers = [power; 3600];
+    let powers = [power; limits::SECONDS];
     fees::energy_fee(&powers, &targets, 200_000, 50_000)
-}
-
-// Document 001, table 5: charging at 500 dollars.
-fn table_5() {
-    let means = [-3_000, -2_900, 100, -3_200];
-    energy(b"table 5", means, -3_000, 200_000, 50_000);
-    energy(b"no target", means, 0, 200_000, 50_000);
-    energy(b"discharging", means, 3_000, 200_000, 50_000);
-}
-
-fn halves() {
-    let means = [0, 0, 0, 2];
-    energy(b"a half", means, 1, 100_000, 0);
-    energy(b"a half charging", means, -1, 0, 100_000);
-    energy(b"less than a half", means, 1, 99_999, 0);
-}
-
-fn limits_of_energy() {
-    let most = [200_000, 200_000, 200_000, 200_000];
-    energy(b"most", most, 100_000, 10_000_000, 10_000_000);
-    energy(b"least", most, -100_000, 10_000_000, 10_000_000);
-    energy(b"price above", most, 1, 10_000_001, 0);
-    energy(b"price below", most, 1, 0, -1);
-    energy(b"target above", most, 100_001, 0, 0);
-    energy(b"price and target above", most, 100_001, 10_000_001, 0);
-}
-
-// A last power past its limit, and a run too short.
-fn refused_powers() {
-    let mut powers = [200_000i64; 3600];
-    powers[3_599] = 200_001;
-    charged(b"a power above", &powers, 1, 0, 0);
-    charged(b"a power and a target above", &powers, 100_001, 0, 0);
-    let short = [200_001i64; 3599];
-    charged(b"3,599 powers", &short, 100_001, 10_000_001, 0);
 }
 
 pub(crate) fn of_energy() {
@@ -132,24 +59,6 @@ pub(crate) fn of_energy() {
     halves();
     limits_of_energy();
     refused_powers();
-}
-
-// Energy charged and discharged, voltage and cost, then refusal, basic, excess and total.
-fn loss(charged: i64, discharged: i64, voltage: i64, cost: i64) {
-    let l = loss::loss_fee(charged, discharged, voltage, cost);
-    let basic = l.basic;
-    let excess = l.excess;
-    let total = l.total;
-    io::write_all(1, b"loss fee");
-    text::number(charged);
-    text::number(discharged);
-    text::number(voltage);
-    text::number(cost);
-    text::byte(l.refusal);
-    text::number(basic.0);
-    text::number(excess.0);
-    text::number(total.0);
-    text::end();
 }
 
 // Document 001, example 5 and table 3.
@@ -180,4 +89,101 @@ pub(crate) fn refused_losses() {
     loss(0, 0, 22_800, -1);
     loss(-1, 0, 22_800, -1);
     loss(i64::MAX, i64::MIN, i64::MIN, i64::MAX);
+}
+
+// A price in hundredths and a capacity, then refusal and dollars.
+fn fee(price: i64, capacity: i64) {
+    io::write_all(1, b"fee");
+    text::number(price);
+    text::number(capacity);
+    answer(fees::fee(price, Kilowatts(capacity)));
+}
+
+fn answer(c: Charged) {
+    let dollars = c.dollars;
+    text::byte(c.refusal);
+    text::number(dollars.0);
+    text::end();
+}
+
+// Both fees and a factor in tenths, then refusal and dollars.
+fn quality(capacity: i64, performance: i64, factor: i64) {
+    io::write_all(1, b"quality part");
+    text::number(capacity);
+    text::number(performance);
+    text::number(factor);
+    answer(fees::quality_part(Dollars(capacity), Dollars(performance), factor));
+}
+
+// Document 001, table 5: charging at 500 dollars.
+fn table_5() {
+    let means = [-3_000, -2_900, 100, -3_200];
+    energy(b"table 5", means, -3_000, 200_000, 50_000);
+    energy(b"no target", means, 0, 200_000, 50_000);
+    energy(b"discharging", means, 3_000, 200_000, 50_000);
+}
+
+// The energy service fee of an hour by its quarters' means.
+fn energy(label: &[u8], means: [i64; 4], target: i64, discharge: i64, charge: i64) {
+    let mut powers = [means[0]; limits::SECONDS];
+    readings::stretch(&mut powers, limits::QUARTER, 2 * limits::QUARTER, means[1]);
+    readings::stretch(
+        &mut powers,
+        2 * limits::QUARTER,
+        3 * limits::QUARTER,
+        means[2],
+    );
+    readings::stretch(&mut powers, 3 * limits::QUARTER, limits::SECONDS, means[3]);
+    charged(label, &powers, target, discharge, charge);
+}
+
+fn charged(label: &[u8], powers: &[i64], target: i64, discharge: i64, charge: i64) {
+    let targets = [target, target, target, target];
+    io::write_all(1, label);
+    answer(fees::energy_fee(powers, &targets, discharge, charge));
+}
+
+fn halves() {
+    let means = [0, 0, 0, 2];
+    energy(b"a half", means, 1, 100_000, 0);
+    energy(b"a half charging", means, -1, 0, 100_000);
+    energy(b"less than a half", means, 1, 99_999, 0);
+}
+
+fn limits_of_energy() {
+    let most = [200_000, 200_000, 200_000, 200_000];
+    energy(b"most", most, 100_000, 10_000_000, 10_000_000);
+    energy(b"least", most, -100_000, 10_000_000, 10_000_000);
+    energy(b"price above", most, 1, 10_000_001, 0);
+    energy(b"price below", most, 1, 0, -1);
+    energy(b"target above", most, 100_001, 0, 0);
+    energy(b"price and target above", most, 100_001, 10_000_001, 0);
+}
+
+// A last power past its limit, and a run too short.
+fn refused_powers() {
+    let mut powers = [200_000i64; limits::SECONDS];
+    powers[3_599] = 200_001;
+    charged(b"a power above", &powers, 1, 0, 0);
+    charged(b"a power and a target above", &powers, 100_001, 0, 0);
+    let short = [200_001i64; 3599];
+    charged(b"3,599 powers", &short, 100_001, 10_000_001, 0);
+}
+
+// Energy charged and discharged, voltage and cost, then refusal, basic, excess and total.
+fn loss(charged: i64, discharged: i64, voltage: i64, cost: i64) {
+    let l = loss::loss_fee(charged, discharged, voltage, cost);
+    let basic = l.basic;
+    let excess = l.excess;
+    let total = l.total;
+    io::write_all(1, b"loss fee");
+    text::number(charged);
+    text::number(discharged);
+    text::number(voltage);
+    text::number(cost);
+    text::byte(l.refusal);
+    text::number(basic.0);
+    text::number(excess.0);
+    text::number(total.0);
+    text::end();
 }

@@ -3,21 +3,42 @@ use crate::hour_cases;
 use crate::readings;
 use crate::text;
 use month::Month;
+use units::limits;
 
-// The hour's place, the total and the standing hours.
-fn ledger(m: Month, day: u8, hour: u8) {
-    let h = m.hour(day, hour);
-    let amount = h.amount;
-    let t = m.total();
-    let total = t.amount;
-    let s = m.standing();
-    text::byte(h.refusal);
-    text::number(amount.0);
-    text::byte(t.refusal);
-    text::number(total.0);
-    text::byte(s.refusal);
-    text::count(s.standing as u64);
-    text::end();
+pub(crate) fn joint() {
+    text::heading(b"joint calls");
+    let mut powers = [0i64; limits::SECONDS];
+    let frequencies = [60_000i64; limits::SECONDS];
+    let m = posts(&powers, &frequencies);
+    readings::stretch(&mut powers, 3 * limits::QUARTER, limits::SECONDS, 900);
+    let m = closes(&powers, &frequencies, m);
+    join(b"no month", &powers, &frequencies, 0, opened(27), 3, 12);
+    forged(&powers, &frequencies);
+    readings::stretch(&mut powers, 0, 1, -200_001);
+    join(b"closed, a power below", &powers, &frequencies, 0, m, 3, 12);
+}
+
+// A place that fills, and what the ledger or the hour refuses.
+fn posts(powers: &[i64], frequencies: &[i64]) -> Month {
+    let m = opened(30);
+    let m = join(b"posted", powers, frequencies, 0, m, 3, 10);
+    let m = join(b"place filled", powers, frequencies, 0, m, 3, 10);
+    let m = join(b"day 31", powers, frequencies, 0, m, 31, 10);
+    let m = join(b"hour 24", powers, frequencies, 0, m, 3, 24);
+    join(
+        b"a target above, place filled",
+        powers,
+        frequencies,
+        100_001,
+        m,
+        3,
+        10,
+    )
+}
+
+fn opened(days: u8) -> Month {
+    let b = Month::open(days);
+    b.month
 }
 
 // The settlement, then the ledger after it.
@@ -50,37 +71,20 @@ fn join(
     after
 }
 
-fn opened(days: u8) -> Month {
-    let b = Month::open(days);
-    b.month
-}
-
-fn closed(m: Month) -> Month {
-    let b = m.close();
-    b.month
-}
-
-fn withdrawn(m: Month, day: u8, hour: u8) -> Month {
-    let b = m.withdraw(day, hour);
-    b.month
-}
-
-// A place that fills, and what the ledger or the hour refuses.
-fn posts(powers: &[i64], frequencies: &[i64]) -> Month {
-    let m = opened(30);
-    let m = join(b"posted", powers, frequencies, 0, m, 3, 10);
-    let m = join(b"place filled", powers, frequencies, 0, m, 3, 10);
-    let m = join(b"day 31", powers, frequencies, 0, m, 31, 10);
-    let m = join(b"hour 24", powers, frequencies, 0, m, 3, 24);
-    join(
-        b"a target above, place filled",
-        powers,
-        frequencies,
-        100_001,
-        m,
-        3,
-        10,
-    )
+// The hour's place, the total and the standing hours.
+fn ledger(m: Month, day: u8, hour: u8) {
+    let h = m.hour(day, hour);
+    let amount = h.amount;
+    let t = m.total();
+    let total = t.amount;
+    let s = m.standing();
+    text::byte(h.refusal);
+    text::number(amount.0);
+    text::byte(t.refusal);
+    text::number(total.0);
+    text::byte(s.refusal);
+    text::count(s.standing as u64);
+    text::end();
 }
 
 // Hours with energy service, a withdrawn hour and a closed month.
@@ -91,6 +95,16 @@ fn closes(powers: &[i64], frequencies: &[i64], m: Month) -> Month {
     let m = closed(m);
     join(b"closed", powers, frequencies, 0, m, 3, 12);
     join(b"closed, day 0", powers, frequencies, 0, m, 0, 12)
+}
+
+fn withdrawn(m: Month, day: u8, hour: u8) -> Month {
+    let b = m.withdraw(day, hour);
+    b.month
+}
+
+fn closed(m: Month) -> Month {
+    let b = m.close();
+    b.month
 }
 
 fn forged(powers: &[i64], frequencies: &[i64]) {
@@ -105,17 +119,4 @@ fn forged(powers: &[i64], frequencies: &[i64]) {
         3,
         12,
     );
-}
-
-pub(crate) fn joint() {
-    text::heading(b"joint calls");
-    let mut powers = [0i64; 3600];
-    let frequencies = [60_000i64; 3600];
-    let m = posts(&powers, &frequencies);
-    readings::stretch(&mut powers, 2_700, 3_600, 900);
-    let m = closes(&powers, &frequencies, m);
-    join(b"no month", &powers, &frequencies, 0, opened(27), 3, 12);
-    forged(&powers, &frequencies);
-    readings::stretch(&mut powers, 0, 1, -200_001);
-    join(b"closed, a power below", &powers, &frequencies, 0, m, 3, 12);
 }

@@ -1,4 +1,5 @@
-// Runs the papers' figures of whole hours: their fees, months of them, hours by their readings, joint calls. crates/figures_hours/stdout has what the papers print.
+// Runs the papers' figures of whole hours: their fees, months of them, hours by their readings, joint calls.
+// crates/figures_hours/stdout has what the papers print.
 mod fees_cases;
 mod hour_cases;
 mod joint_cases;

@@ -1,62 +1,34 @@
 // Made-up runs, each by a small rule, and a check sum over a run of scores.
 const MODULUS: u64 = 4_294_967_296;
 
-fn chosen(taken: bool, value: i64, old: i64) -> i64 {
-    if taken { value } else { old }
+// What a made-up run has at its places.
+pub(crate) enum Rule {
+    Level(i64),
+    // at even places and at odd ones
+    Turns(i64, i64),
+    // frequencies over the whole curve, from 59,700 to 60,300
+    Waver,
+}
+
+// The rule's values from a place on, up to another or the run's end.
+pub(crate) fn fill(run: &mut [i64], from: usize, to: usize, rule: Rule) {
+    let mut i = from;
+    while i < run.len() {
+        let old = run[i];
+        let x = chosen(i < to, value_at(rule, i), old);
+        run[i] = x;
+        i += 1;
+    }
 }
 
 // The same value from a place on, up to another or the run's end.
 pub(crate) fn stretch(run: &mut [i64], from: usize, to: usize, value: i64) {
-    let mut i = from;
-    while i < run.len() {
-        let old = run[i];
-        let x = chosen(i < to, value, old);
-        run[i] = x;
-        i += 1;
-    }
+    fill(run, from, to, Rule::Level(value));
 }
 
 // The planned transfer of each second of an hour.
 pub(crate) fn follow(run: &mut [i64], targets: &[i64]) {
     ramp::plan(targets, run);
-}
-
-// A frequency from 59,700 to 60,300.
-fn wavering_at(i: usize) -> i64 {
-    (59_700 + i % 3_600 * 37 % 601) as i64
-}
-
-// Frequencies over the whole curve.
-pub(crate) fn waver(run: &mut [i64]) {
-    let mut i = 0;
-    while i < run.len() {
-        let frequency = wavering_at(i);
-        run[i] = frequency;
-        i += 1;
-    }
-}
-
-fn alternating_at(i: usize, even: i64, odd: i64) -> i64 {
-    if i % 2 == 0 { even } else { odd }
-}
-
-// Two values by turns.
-pub(crate) fn alternate(run: &mut [i64], even: i64, odd: i64) {
-    let mut i = 0;
-    while i < run.len() {
-        let x = alternating_at(i, even, odd);
-        run[i] = x;
-        i += 1;
-    }
-}
-
-// The sum with one number more; the order of the numbers counts.
-fn mixed(sum: u64, number: u64) -> u64 {
-    (sum % MODULUS * 31 + number % MODULUS) % MODULUS
-}
-
-fn with_score(sum: u64, score: u8) -> u64 {
-    mixed(sum, score as u64)
 }
 
 pub(crate) fn score_sum(run: &[u8]) -> u64 {
@@ -68,4 +40,25 @@ pub(crate) fn score_sum(run: &[u8]) -> u64 {
         i += 1;
     }
     sum
+}
+
+fn chosen(taken: bool, value: i64, old: i64) -> i64 {
+    if taken { value } else { old }
+}
+
+fn value_at(rule: Rule, i: usize) -> i64 {
+    match rule {
+        Rule::Level(value) => value,
+        Rule::Turns(even, odd) => if i % 2 == 0 { even } else { odd },
+        Rule::Waver => (59_700 + i % 3_600 * 37 % 601) as i64,
+    }
+}
+
+fn with_score(sum: u64, score: u8) -> u64 {
+    mixed(sum, score as u64)
+}
+
+// The sum with one number more; the order of the numbers counts.
+fn mixed(sum: u64, number: u64) -> u64 {
+    (sum % MODULUS * 31 + number % MODULUS) % MODULUS
 }

@@ -5,6 +5,49 @@ use crate::text;
 use hour::Shift;
 use hour::Terms;
 use units::Kilowatts;
+use units::limits;
+
+pub(crate) fn hours() {
+    text::heading(b"refused hours: 1, 2, 3, 5, 10, 4 in this order");
+    let mut powers = [0i64; limits::SECONDS];
+    let mut frequencies = [0i64; limits::SECONDS];
+    faults(&mut powers, &mut frequencies);
+}
+
+fn faults(powers: &mut [i64], frequencies: &mut [i64]) {
+    readings::stretch(frequencies, 0, limits::SECONDS, 60_000);
+    at_the_limits(powers, frequencies);
+    single(powers, frequencies);
+    single_in_bands_and_targets(powers, frequencies);
+    short_scores(powers, frequencies);
+    readings::stretch(powers, limits::SECONDS - 1, limits::SECONDS, 200_001);
+    several(powers, frequencies);
+    lengths(powers, frequencies);
+}
+
+// Nothing is refused.
+fn at_the_limits(powers: &[i64], frequencies: &[i64]) {
+    attempt(b"none", powers, frequencies, 10_000, 50_000, 10, 0);
+    attempt(
+        b"at the limits",
+        powers,
+        frequencies,
+        100_000,
+        10_000_000,
+        -240,
+        -100_000,
+    );
+    attempt(
+        b"least factor",
+        powers,
+        frequencies,
+        10_000,
+        50_000,
+        -240,
+        0,
+    );
+    attempt(b"least capacity", powers, frequencies, 1, 0, 10, 100_000);
+}
 
 // An hour of 7 in each place of the lent run, with the capacity, charge price, factor and last target as given.
 fn attempt(
@@ -16,7 +59,7 @@ fn attempt(
     factor: i64,
     target: i64,
 ) {
-    let mut scores = [7u8; 3600];
+    let mut scores = [7u8; limits::SECONDS];
     let terms = Terms {
         capacity: Kilowatts(capacity),
         clearing: 43_000,
@@ -62,30 +105,6 @@ fn worked(
     hour_cases::settlement(label, s);
     text::count(readings::score_sum(scores));
     text::end();
-}
-
-// Nothing is refused.
-fn at_the_limits(powers: &[i64], frequencies: &[i64]) {
-    attempt(b"none", powers, frequencies, 10_000, 50_000, 10, 0);
-    attempt(
-        b"at the limits",
-        powers,
-        frequencies,
-        100_000,
-        10_000_000,
-        -240,
-        -100_000,
-    );
-    attempt(
-        b"least factor",
-        powers,
-        frequencies,
-        10_000,
-        50_000,
-        -240,
-        0,
-    );
-    attempt(b"least capacity", powers, frequencies, 1, 0, 10, 100_000);
 }
 
 // One fault at a time, in the capacity and the prices; then in the bands and the targets.
@@ -134,6 +153,20 @@ fn single_in_bands_and_targets(powers: &[i64], frequencies: &[i64]) {
     );
 }
 
+fn short_scores(powers: &[i64], frequencies: &[i64]) {
+    let mut scores = [7u8; 3599];
+    let shift = hour_cases::shift_of([0, 0, 0, 0, 0]);
+    worked(
+        b"3,599 scores",
+        powers,
+        frequencies,
+        hour_cases::terms(),
+        shift,
+        10,
+        &mut scores,
+    );
+}
+
 // A last power that is past its limit, and one fault more each time.
 fn several(powers: &[i64], frequencies: &[i64]) {
     attempt(b"a power above", powers, frequencies, 10_000, 50_000, 10, 0);
@@ -174,36 +207,4 @@ fn lengths(powers: &[i64], frequencies: &[i64]) {
     attempt(b"3,599 powers", &short, frequencies, 0, -1, 11, 100_001);
     attempt(b"3,599 frequencies", powers, &short, 0, -1, 11, 100_001);
     attempt(b"neither", &short, &short, 10_000, 50_000, 10, 0);
-}
-
-fn short_scores(powers: &[i64], frequencies: &[i64]) {
-    let mut scores = [7u8; 3599];
-    let shift = hour_cases::shift_of([0, 0, 0, 0, 0]);
-    worked(
-        b"3,599 scores",
-        powers,
-        frequencies,
-        hour_cases::terms(),
-        shift,
-        10,
-        &mut scores,
-    );
-}
-
-fn faults(powers: &mut [i64], frequencies: &mut [i64]) {
-    readings::stretch(frequencies, 0, 3_600, 60_000);
-    at_the_limits(powers, frequencies);
-    single(powers, frequencies);
-    single_in_bands_and_targets(powers, frequencies);
-    short_scores(powers, frequencies);
-    readings::stretch(powers, 3_599, 3_600, 200_001);
-    several(powers, frequencies);
-    lengths(powers, frequencies);
-}
-
-pub(crate) fn hours() {
-    text::heading(b"refused hours: 1, 2, 3, 5, 10, 4 in this order");
-    let mut powers = [0i64; 3600];
-    let mut frequencies = [0i64; 3600];
-    faults(&mut powers, &mut frequencies);
 }

@@ -10,11 +10,12 @@ use lib.ListN.{length, getD, take, drop, set, drop-of-length-le, length-set}
 use lib.Seq.{drop-cons, length-take-le, set-at, take-at}
 use borrow.Author.Tests.{ne-eqb, eq-eqb, eqb-true}
 use borrow.Rule.Slice.PartMut.{putMid, midOf, same-len-mid}
-use Rattle.whole.proofs.Choice.{all-passed, kept-new, kept-old}
+use Rattle.whole.specs.Choice.{orElse, inOrder}
+use Rattle.whole.proofs.Choice.{all-passed, in-order-then, kept-new, kept-old}
 use Rattle.units.specs.Refusals.{wrongLength, badDigit, badSum, badKind}
 use Rattle.frame.specs.Digits.{allDigits, bytesOf}
 use Rattle.frame.specs.Numbers.{bytesIn, byteSum}
-use Rattle.frame.specs.Frame.{lineDigits, checked, lineRefusal, zeros, openedOf, inForm, entryOf, readRefusal, readingOf, bodyOf, withSum, lineOf, writeRefusal, written}
+use Rattle.frame.specs.Frame.{lineDigits, checked, lineTests, lineRefusal, zeros, openedOf, inForm, entryOf, readRefusal, readingOf, bodyOf, withSum, lineOf, writeRefusal, written}
 use Rattle.frame.specs.declared.Entry.{Entry}
 use Rattle.frame.specs.declared.Opened.{Opened}
 use Rattle.frame.specs.declared.Reading.the-variants.{Frame, Refused}
@@ -53,17 +54,21 @@ module _ (line : List ℕ) where
 
   -- ---- out of `read_frame`
 
+  pub read-number : readRefusal line ≡ orElse (lineRefusal line) (inOrder ((inForm (entryOf (bytesOf line)), badKind) ∷ []))
+  unfolding lineRefusal readRefusal
+  read-number = in-order-then (lineTests line) ((inForm (entryOf (bytesOf line)), badKind) ∷ []) refl
+
   pub reading-line : (lineRefusal line ≡ 0 → ⊥) → Refused (lineRefusal line) ≡ readingOf line
-  unfolding readingOf readRefusal
-  reading-line h = let n = ne-eqb (lineRefusal line) 0 h in rw (n, n)
+  unfolding readingOf
+  reading-line h = let n = ne-eqb (lineRefusal line) 0 h in rw (read-number, n, n)
 
   pub reading-form : lineRefusal line ≡ 0 → inForm (entryOf (bytesOf line)) ≡ false → Refused badKind ≡ readingOf line
-  unfolding readingOf readRefusal
-  reading-form h f = rw (eq-eqb (lineRefusal line) 0 h, f)
+  unfolding readingOf
+  reading-form h f = rw (read-number, eq-eqb (lineRefusal line) 0 h, f)
 
   pub reading-entry : lineRefusal line ≡ 0 → inForm (entryOf (bytesOf line)) ≡ true → Frame (entryOf (bytesOf line)) ≡ readingOf line
-  unfolding readingOf readRefusal
-  reading-entry h f = rw (eq-eqb (lineRefusal line) 0 h, f)
+  unfolding readingOf
+  reading-entry h f = rw (read-number, eq-eqb (lineRefusal line) 0 h, f)
 
 -- ---- out of `write_frame`
 

@@ -22,7 +22,7 @@ use Rattle.frame.specs.declared.Entry.{Entry}
 use Rattle.frame.specs.declared.Reading.the-variants.{Frame, Refused}
 use Rattle.frame.proofs.Numbers.{Bytes, bytes-take, bytes-drop, byte-at, bytes-are, length-bytes, number-bytes, bytes-number, number-below, signed-twos, twos-signed, twos-below, signed-below}
 use Rattle.frame.proofs.Lines.{Sound, sound, opens, twelve, line-bytes, line-back, made-bytes, made-sound}
-use Rattle.frame.proofs.Frames.{length-body, reading-entry, write-right, taken, takes}
+use Rattle.frame.proofs.Frames.{length-body, read-number, reading-entry, write-right, taken, takes}
 
 -- the entry's fields lie in their types
 pub record Held (entry : Entry) : Type 0 where
@@ -82,11 +82,11 @@ pub record Passed (line : List ℕ) (entry : Entry) : Type 0 where
   pub held : entryOf (bytesOf line) ≡ entry
 
 pub passed : (line : List ℕ) (entry : Entry) → readingOf line ≡ Frame entry → Passed line entry
-unfolding readingOf readRefusal
+unfolding readingOf
 passed line entry e =
     let x = entryOf (bytesOf line) in
     let f = frame-is (eqb (readRefusal line) 0) (readRefusal line) x entry e in
-    let b = both-passed (lineRefusal line) _ (eqb-true (readRefusal line) 0 (f .0)) in
+    let b = both-passed (lineRefusal line) _ (sym (read-number line) ∙ eqb-true (readRefusal line) 0 (f .0)) in
     let g = all-passed ((inForm x, badKind) ∷ []) refl (b .1) in
     record { sound = sound line (b .0); form = ap inForm (sym (f .1)) ∙ g .0; held = f .1 }
 

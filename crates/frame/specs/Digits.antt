@@ -4,15 +4,10 @@ use mathlib.Core.Bool.{Bool, true, _&&_, _||_}
 use mathlib.Core.List.{List, [], _∷_}
 use lib.Dec.{ltb, leb}
 use Rattle.whole.specs.Choice.{pick}
-use Rattle.whole.specs.Runs.{listed}
 
 -- the digit of a value below 16: 0-9 stand from 48 on, A-F from 65, which is 55 and ten
 unfoldable pub hexDigitOf : ℕ → ℕ
 hexDigitOf v = pick (ltb v 10) (48 + v) (55 + v)
-
--- the digits of 0 to 15
-unfoldable pub sixteen : List ℕ
-sixteen = listed hexDigitOf 0 16
 
 -- the digits that are allowed, and their values
 unfoldable pub isHexDigit : ℕ → Bool

@@ -5,7 +5,7 @@ use mathlib.Core.List.{List, [], _∷_, _++_}
 use lib.Dec.{eqb}
 use lib.IntN.{ℤ, pos, negsuc}
 use lib.ListN.{length, getD, take, drop}
-use Rattle.whole.specs.Choice.{pick, orElse, inOrder, kept}
+use Rattle.whole.specs.Choice.{pick, inOrder, kept}
 use Rattle.units.specs.Refusals.{wrongLength, badDigit, badSum, badKind}
 use Rattle.units.specs.Units.{dollars}
 use Rattle.frame.specs.Digits.{allDigits, digitsOf, bytesOf}
@@ -25,8 +25,11 @@ unfoldable pub checked : List ℕ → Bool
 checked bytes = eqb (byteSum (take 11 bytes) % 256) (getD bytes 11 0)
 
 -- refused with 1, 11, 12, in this order
+abbrev pub lineTests : List ℕ → List (Bool × ℕ)
+lineTests line = (eqb (length line) lineDigits, wrongLength) ∷ (allDigits line, badDigit) ∷ (checked (bytesOf line), badSum) ∷ []
+
 unfoldable pub lineRefusal : List ℕ → ℕ
-lineRefusal line = inOrder ((eqb (length line) lineDigits, wrongLength) ∷ (allDigits line, badDigit) ∷ (checked (bytesOf line), badSum) ∷ [])
+lineRefusal line = inOrder (lineTests line)
 
 abbrev pub zeros : List ℕ
 zeros = 0 ∷ 0 ∷ 0 ∷ 0 ∷ 0 ∷ 0 ∷ 0 ∷ 0 ∷ 0 ∷ 0 ∷ 0 ∷ 0 ∷ []
@@ -58,9 +61,9 @@ entryOf bytes =
       amount = dollars (signedIn 8 (numberOf (take 8 (drop 3 bytes))));
     }
 
--- refused with the line's number, then with 13
+-- refused as any line is, then with 13
 unfoldable pub readRefusal : List ℕ → ℕ
-readRefusal line = orElse (lineRefusal line) (inOrder ((inForm (entryOf (bytesOf line)), badKind) ∷ []))
+readRefusal line = inOrder (lineTests line ++ ((inForm (entryOf (bytesOf line)), badKind) ∷ []))
 
 -- the reader's answer by the paper's number: 0 is a frame with its entry, any other is that refusal
 abbrev pub readingBy : ℕ → Entry → Reading

@@ -3,87 +3,7 @@ ghost use Prim.Native.Nat.{_+_, _*_, _<_};
 ghost use mathlib.Core.Path.{_≡_};
 ghost use mathlib.Core.Bool.{true};
 ghost use lib.ListN.{length};
-ghost use Rattle.frame.specs.Digits.{hexDigitOf, sixteen, hexValueOf, isHexDigit, allDigits, digitsOf, bytesOf};
-
-const DIGITS: [u8; 16] = [
-    b'0',
-    b'1',
-    b'2',
-    b'3',
-    b'4',
-    b'5',
-    b'6',
-    b'7',
-    b'8',
-    b'9',
-    b'A',
-    b'B',
-    b'C',
-    b'D',
-    b'E',
-    b'F',
-];
-
-// The digit of a value, in the sixteen digits. A line makes them once.
-fn digit(digits: &[u8; 16], value: u8) -> u8
-    requires { ⌜ value < 16 ⌝ }
-    requires { ⌜ now digits ≡ sixteen ⌝ }
-    ensures { λ r. ⌜ r ≡ hexDigitOf value ⌝ }
-{
-    digits[value as usize]
-}
-
-// Whether a byte of a line is a digit that is allowed.
-fn is_digit(d: u8) -> bool
-    ensures { λ r. ⌜ r ≡ isHexDigit d ⌝ }
-{
-    (48 <= d) & (d < 58) | (65 <= d) & (d < 71)
-}
-
-// The value of a digit.
-fn value(d: u8) -> u8
-    requires { ⌜ isHexDigit d ≡ true ⌝ }
-    ensures { λ r. ⌜ r ≡ hexValueOf d ⌝ }
-{
-    if d < 65 { d - 48 } else { d - 55 }
-}
-
-// The byte of two digits.
-fn byte(high: u8, low: u8) -> u8
-    requires { ⌜ isHexDigit high ≡ true ⌝ }
-    requires { ⌜ isHexDigit low ≡ true ⌝ }
-    ensures { λ r. ⌜ r ≡ hexValueOf high * 16 + hexValueOf low ⌝ }
-{
-    value(high) * 16 + value(low)
-}
-
-// Whether a line has only digits that are allowed. It goes on past one that is not, so that several are tested at a time.
-fn all_digits(line: &[u8]) -> bool
-    ensures { λ r. ⌜ r ≡ allDigits (now (line .entry)) ⌝ }
-{
-    let mut all = true;
-    let mut i = 0;
-    while i < line.len() {
-        all = all & is_digit(line[i]);
-        i += 1;
-    }
-    all
-}
-
-// The bytes of digits.
-fn put_values(line: &[u8], bytes: &mut [u8])
-    requires { ⌜ length (now line) ≡ 2 * length (now bytes) ⌝ }
-    requires { ⌜ allDigits (now line) ≡ true ⌝ }
-    ensures { λ _. ⌜ now (bytes .exit) ≡ bytesOf (now (line .entry)) ⌝ }
-{
-    let mut i = 0;
-    while i < bytes.len() {
-        let high = line[2 * i];
-        let low = line[2 * i + 1];
-        bytes[i] = byte(high, low);
-        i += 1;
-    }
-}
+ghost use Rattle.frame.specs.Digits.{hexDigitOf, hexValueOf, isHexDigit, allDigits, digitsOf, bytesOf};
 
 // Whether a line has only digits that are allowed; where it has, its bytes.
 pub(crate) fn decode(line: &[u8], bytes: &mut [u8]) -> bool
@@ -102,12 +22,90 @@ pub(crate) fn encode(bytes: &[u8], line: &mut [u8])
     requires { ⌜ length (now line) ≡ 2 * length (now bytes) ⌝ }
     ensures { λ _. ⌜ now (line .exit) ≡ digitsOf (now (bytes .entry)) ⌝ }
 {
-    let digits = DIGITS;
     let mut i = 0;
     while i < bytes.len() {
         let b = bytes[i];
-        line[2 * i] = digit(&digits, b / 16);
-        line[2 * i + 1] = digit(&digits, b % 16);
+        line[2 * i] = digit(b / 16);
+        line[2 * i + 1] = digit(b % 16);
         i += 1;
+    }
+}
+
+// Whether a line has only digits that are allowed. It goes on past one that is not, so that several are tested at a
+// time.
+fn all_digits(line: &[u8]) -> bool
+    ensures { λ r. ⌜ r ≡ allDigits (now (line .entry)) ⌝ }
+{
+    let mut all = true;
+    let mut i = 0;
+    while i < line.len() {
+        all = all & is_digit(line[i]);
+        i += 1;
+    }
+    all
+}
+
+// Whether a byte of a line is a digit that is allowed.
+fn is_digit(d: u8) -> bool
+    ensures { λ r. ⌜ r ≡ isHexDigit d ⌝ }
+{
+    (48 <= d) & (d < 58) | (65 <= d) & (d < 71)
+}
+
+// The bytes of digits.
+fn put_values(line: &[u8], bytes: &mut [u8])
+    requires { ⌜ length (now line) ≡ 2 * length (now bytes) ⌝ }
+    requires { ⌜ allDigits (now line) ≡ true ⌝ }
+    ensures { λ _. ⌜ now (bytes .exit) ≡ bytesOf (now (line .entry)) ⌝ }
+{
+    let mut i = 0;
+    while i < bytes.len() {
+        let high = line[2 * i];
+        let low = line[2 * i + 1];
+        bytes[i] = byte(high, low);
+        i += 1;
+    }
+}
+
+// The byte of two digits.
+fn byte(high: u8, low: u8) -> u8
+    requires { ⌜ isHexDigit high ≡ true ⌝ }
+    requires { ⌜ isHexDigit low ≡ true ⌝ }
+    ensures { λ r. ⌜ r ≡ hexValueOf high * 16 + hexValueOf low ⌝ }
+{
+    value(high) * 16 + value(low)
+}
+
+// The value of a digit.
+fn value(d: u8) -> u8
+    requires { ⌜ isHexDigit d ≡ true ⌝ }
+    ensures { λ r. ⌜ r ≡ hexValueOf d ⌝ }
+{
+    if d < 65 { d - 48 } else { d - 55 }
+}
+
+// The digit of a value. Of a `match` the compiler makes a table that stands in memory; an array would be written anew
+// for each line.
+fn digit(value: u8) -> u8
+    requires { ⌜ value < 16 ⌝ }
+    ensures { λ r. ⌜ r ≡ hexDigitOf value ⌝ }
+{
+    match value {
+        0 => b'0',
+        1 => b'1',
+        2 => b'2',
+        3 => b'3',
+        4 => b'4',
+        5 => b'5',
+        6 => b'6',
+        7 => b'7',
+        8 => b'8',
+        9 => b'9',
+        10 => b'A',
+        11 => b'B',
+        12 => b'C',
+        13 => b'D',
+        14 => b'E',
+        _ => b'F',
     }
 }

@@ -33,23 +33,6 @@ pub struct Opened {
     pub bytes: [u8; 12],
 }
 
-// Whether the last of twelve bytes is the sum of the others.
-fn checked(bytes: &[u8]) -> bool
-    requires { ⌜ length (now bytes) ≡ 12 ⌝ }
-    ensures { λ r. ⌜ r ≡ checked (now (bytes .entry)) ⌝ }
-{
-    number::sum(&bytes[..11]) == bytes[11]
-}
-
-fn turned_away(refusal: u8) -> Opened
-    ensures { λ r. ⌜ r ≡ record { refusal = refusal; bytes = zeros } ⌝ }
-{
-    Opened {
-        refusal: refusal,
-        bytes: [0; 12],
-    }
-}
-
 // The twelve bytes of any line of 24 digits, or 1, 11 or 12.
 pub fn open_line(line: &[u8]) -> Opened
     ensures { λ r. ⌜ r ≡ openedOf (now (line .entry)) ⌝ }
@@ -68,6 +51,83 @@ pub fn open_line(line: &[u8]) -> Opened
         refusal: 0,
         bytes: bytes,
     }
+}
+
+// The entry of a line, or 1, 11, 12 or 13.
+pub fn read_frame(line: &[u8]) -> Reading
+    ensures { λ r. ⌜ r ≡ readingOf (now (line .entry)) ⌝ }
+{
+    let opened = open_line(line);
+    if opened.refusal != 0 {
+        return Reading::Refused(opened.refusal);
+    }
+    let bytes = opened.bytes;
+    let entry = entry_of(&bytes);
+    if !in_form(entry) {
+        return Reading::Refused(refusals::BAD_KIND);
+    }
+    Reading::Frame(entry)
+}
+
+// Fills a lent run of 24 bytes with the entry's line, without a line end; or answers 1 or 13 and leaves the run as it
+// was.
+pub fn write_frame(entry: Entry, line: &mut [u8]) -> u8
+    ensures { λ r. ⌜ (r ≡ writeRefusal entry (length (now (line .entry)))) × (now (line .exit) ≡ written entry (now (line .entry))) ⌝ }
+{
+    if line.len() != LINE {
+        return refusals::WRONG_LENGTH;
+    }
+    if !in_form(entry) {
+        return refusals::BAD_KIND;
+    }
+    put_line(entry, line);
+    0
+}
+
+fn turned_away(refusal: u8) -> Opened
+    ensures { λ r. ⌜ r ≡ record { refusal = refusal; bytes = zeros } ⌝ }
+{
+    Opened {
+        refusal: refusal,
+        bytes: [0; 12],
+    }
+}
+
+// Whether the last of twelve bytes is the sum of the others.
+fn checked(bytes: &[u8]) -> bool
+    requires { ⌜ length (now bytes) ≡ 12 ⌝ }
+    ensures { λ r. ⌜ r ≡ checked (now (bytes .entry)) ⌝ }
+{
+    number::sum(&bytes[..11]) == bytes[11]
+}
+
+// The entry of twelve bytes.
+fn entry_of(bytes: &[u8]) -> Entry
+    requires { ⌜ length (now bytes) ≡ 12 ⌝ }
+    ensures { λ r. ⌜ r ≡ entryOf (now (bytes .entry)) ⌝ }
+{
+    let amount = number::signed(number::number(&bytes[3..11]));
+    Entry {
+        kind: bytes[0],
+        day: bytes[1],
+        hour: bytes[2],
+        amount: Dollars(amount),
+    }
+}
+
+// Whether the kind is known and each field that it does not use is zero.
+fn in_form(entry: Entry) -> bool
+    ensures { λ r. ⌜ r ≡ inForm entry ⌝ }
+{
+    let k = entry.kind;
+    let amount = entry.amount;
+    if (k == kinds::POST) | (k == kinds::REPLACE) {
+        return true;
+    }
+    (k <= kinds::CLOSE)
+        & (uses_day(k) | (entry.day == 0))
+        & (uses_hour(k) | (entry.hour == 0))
+        & (uses_amount(k) | is_zero(amount.0))
 }
 
 fn uses_day(k: u8) -> bool
@@ -94,49 +154,23 @@ fn is_zero(z: i64) -> bool
     z == 0
 }
 
-// Whether the kind is known and each field that it does not use is zero.
-fn in_form(entry: Entry) -> bool
-    ensures { λ r. ⌜ r ≡ inForm entry ⌝ }
+// The line of an entry.
+fn put_line(entry: Entry, line: &mut [u8])
+    requires { ⌜ length (now line) ≡ lineDigits ⌝ }
+    ensures { λ _. ⌜ now (line .exit) ≡ lineOf entry ⌝ }
 {
-    let k = entry.kind;
-    let amount = entry.amount;
-    if (k == kinds::POST) | (k == kinds::REPLACE) {
-        return true;
-    }
-    (k <= kinds::CLOSE)
-        & (uses_day(k) | (entry.day == 0))
-        & (uses_hour(k) | (entry.hour == 0))
-        & (uses_amount(k) | is_zero(amount.0))
+    let mut bytes = [0u8; 12];
+    put_bytes(entry, &mut bytes);
+    digit::encode(&bytes, line);
 }
 
-// The entry of twelve bytes.
-fn entry_of(bytes: &[u8]) -> Entry
+// All twelve.
+fn put_bytes(entry: Entry, bytes: &mut [u8])
     requires { ⌜ length (now bytes) ≡ 12 ⌝ }
-    ensures { λ r. ⌜ r ≡ entryOf (now (bytes .entry)) ⌝ }
+    ensures { λ _. ⌜ now (bytes .exit) ≡ withSum (bodyOf entry) ⌝ }
 {
-    let amount = number::signed(number::number(&bytes[3..11]));
-    Entry {
-        kind: bytes[0],
-        day: bytes[1],
-        hour: bytes[2],
-        amount: Dollars(amount),
-    }
-}
-
-// The entry of a line, or 1, 11, 12 or 13.
-pub fn read_frame(line: &[u8]) -> Reading
-    ensures { λ r. ⌜ r ≡ readingOf (now (line .entry)) ⌝ }
-{
-    let opened = open_line(line);
-    if opened.refusal != 0 {
-        return Reading::Refused(opened.refusal);
-    }
-    let bytes = opened.bytes;
-    let entry = entry_of(&bytes);
-    if !in_form(entry) {
-        return Reading::Refused(refusals::BAD_KIND);
-    }
-    Reading::Frame(entry)
+    put_body(entry, &mut bytes[..11]);
+    bytes[11] = number::sum(&bytes[..11]);
 }
 
 // The first eleven bytes of an entry.
@@ -150,37 +184,4 @@ fn put_body(entry: Entry, body: &mut [u8])
     body[1] = entry.day;
     body[2] = entry.hour;
     number::put_number(bits, &mut body[3..]);
-}
-
-// All twelve.
-fn put_bytes(entry: Entry, bytes: &mut [u8])
-    requires { ⌜ length (now bytes) ≡ 12 ⌝ }
-    ensures { λ _. ⌜ now (bytes .exit) ≡ withSum (bodyOf entry) ⌝ }
-{
-    put_body(entry, &mut bytes[..11]);
-    bytes[11] = number::sum(&bytes[..11]);
-}
-
-// The line of an entry.
-fn put_line(entry: Entry, line: &mut [u8])
-    requires { ⌜ length (now line) ≡ lineDigits ⌝ }
-    ensures { λ _. ⌜ now (line .exit) ≡ lineOf entry ⌝ }
-{
-    let mut bytes = [0u8; 12];
-    put_bytes(entry, &mut bytes);
-    digit::encode(&bytes, line);
-}
-
-// Fills a lent run of 24 bytes with the entry's line, without a line end; or answers 1 or 13 and leaves the run as it was.
-pub fn write_frame(entry: Entry, line: &mut [u8]) -> u8
-    ensures { λ r. ⌜ (r ≡ writeRefusal entry (length (now (line .entry)))) × (now (line .exit) ≡ written entry (now (line .entry))) ⌝ }
-{
-    if line.len() != LINE {
-        return refusals::WRONG_LENGTH;
-    }
-    if !in_form(entry) {
-        return refusals::BAD_KIND;
-    }
-    put_line(entry, line);
-    0
 }

@@ -4,12 +4,6 @@ ghost use mathlib.Core.Path.{_≡_};
 ghost use lib.ListN.{length};
 ghost use Rattle.frame.specs.Numbers.{bytesIn, numberOf, twosIn, signedIn, byteSum};
 
-fn wide(b: u8) -> u64
-    ensures { λ r. ⌜ r ≡ b ⌝ }
-{
-    b as u64
-}
-
 // The number that bytes spell.
 pub(crate) fn number(bytes: &[u8]) -> u64
     requires { ⌜ length (now bytes) ≤ 8 ⌝ }
@@ -70,4 +64,10 @@ pub(crate) fn signed(n: u64) -> i64
     } else {
         -1 - ((u64::MAX - n) as i64)
     }
+}
+
+fn wide(b: u8) -> u64
+    ensures { λ r. ⌜ r ≡ b ⌝ }
+{
+    b as u64
 }

@@ -1,6 +1,8 @@
 -- Answers that meet a public function's contract are equal: the contracts are equations. Assumes nothing.
 use mathlib.Core.Path.{sym, _∙_}
 use Rattle.whole.specs.Determined.{Determined}
+use Rattle.head.proofs.places.Reads as places-reads
+use Rattle.head.proofs.places.Kinds as places-kinds
 use Rattle.head.proofs.place_of.Reads as place-of-reads
 use Rattle.head.proofs.place_of.Kinds as place-of-kinds
 use Rattle.head.proofs.«open».Reads as open-reads
@@ -11,6 +13,9 @@ use Rattle.head.proofs.loss_fee.Reads as loss-fee-reads
 use Rattle.head.proofs.loss_fee.Kinds as loss-fee-kinds
 use Rattle.head.proofs.close.Reads as close-reads
 use Rattle.head.proofs.close.Kinds as close-kinds
+
+places-determined : Determined 0 places-kinds.ps places-kinds.r places-reads.Post
+places-determined κs a x y s t p q = p ∙ sym q
 
 place-of-determined : Determined 0 place-of-kinds.ps place-of-kinds.r place-of-reads.Post
 place-of-determined κs a x y s t p q = p ∙ sym q

@@ -7,9 +7,10 @@ use lib.Dec.{eqb}
 use lib.IntN.{ℤ}
 use Rattle.whole.specs.Choice.{pick, kept}
 use Rattle.history.specs.Rules.{Call}
-use Rattle.history.specs.Board.{Board, runsFit, rulingOn, nextOn, ruledIn, handedIn}
+use Rattle.history.specs.Board.{Board, rulingOn, nextOn}
+use Rattle.history.specs.Inner.{runsFit, ruledIn, handedIn}
 use Rattle.head.specs.Rules.{Fee, Item, monthRules}
-use Rattle.head.specs.Head.{boardIn, headedOf, headRefusal}
+use Rattle.head.specs.Inner.{boardIn, headedOf, headRefusal}
 use Rattle.head.specs.declared.Head.{Head}
 
 -- a call that touches no place, at a head whose runs are the ledger's

@@ -10,7 +10,7 @@ use Rattle.units.specs.Units.{dollars}
 use Rattle.history.specs.Rules.{Call}
 use Rattle.history.specs.Board.{Board, nextOn}
 use Rattle.head.specs.Rules.{Fee, Item, monthRules}
-use Rattle.head.specs.Head.{boardIn, freshHead, openedHead, headedOf}
+use Rattle.head.specs.Inner.{boardIn, freshHead, openedHead, headedOf}
 use Rattle.head.specs.declared.Head.{Head}
 use Rattle.head.specs.declared.Headed.{Headed}
 use Rattle.head.proofs.«open».Reads as open-reads

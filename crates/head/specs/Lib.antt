@@ -1,3 +1,3 @@
 -- The month's rules, and a month without its places.
 pub mod Rules
-pub mod Head
+pub mod Inner

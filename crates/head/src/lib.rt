@@ -1,10 +1,10 @@
-// The month ledger's head, by value: what a month is beside its places. Its calls touch no place; an hour's place is worked out here, and nowhere else.
-ghost use Prim.Native.Nat.{_-_};
+// The month ledger's head, by value: what a month is beside its places. Its calls touch no place; an hour's place is
+// worked out here, and nowhere else.
 ghost use mathlib.Core.Path.{_≡_};
-ghost use Rattle.units.specs.Limits.{isDays, hoursOfDay};
-ghost use Rattle.history.specs.Rules.{Call, hoursTo};
-ghost use Rattle.head.specs.Rules.{lossFeeRefusal};
-ghost use Rattle.head.specs.Head.{placeOf, freshHead, openedHead, headFits, headedOf};
+ghost use Rattle.units.specs.Limits.{isDays};
+ghost use Rattle.history.specs.Rules.{Call, placesOf};
+ghost use Rattle.head.specs.Rules.{lossFeeRefusal, monthRules};
+ghost use Rattle.head.specs.Inner.{placeOf, freshHead, openedHead, headFits, headedOf};
 use units::Dollars;
 use units::limits;
 use units::refusals;
@@ -22,48 +22,23 @@ pub struct Headed {
     pub head: Head,
 }
 
-// An hour's place, and whether the hour is inside the month.
-pub struct Place {
-    pub inside: bool,
-    pub at: usize,
-}
-
-fn is_days(days: u8) -> bool
-    ensures { λ r. ⌜ r ≡ isDays days ⌝ }
+// How many places the hours of a month of that many days have.
+pub fn places(days: u8) -> usize
+    ensures { λ r. ⌜ r ≡ placesOf (monthRules days) ⌝ }
 {
-    (limits::LEAST_DAYS <= days) & (days <= limits::MOST_DAYS)
+    days as usize * limits::HOURS
 }
 
-fn fee_refusal(fee: Dollars) -> u8
-    ensures { λ r. ⌜ r ≡ lossFeeRefusal (fee .0) ⌝ }
-{
-    let a = fee.0;
-    whole::unless(
-        whole::within(a, 0, limits::LOSS_FEE),
-        refusals::BAD_MONEY,
-        0,
-    )
-}
-
-// The hours of the days before a day.
-fn hours_before(day: u8) -> usize
-    ensures { λ r. ⌜ r ≡ hoursTo (λ _. hoursOfDay) (day - 1) ⌝ }
-{
-    if day == 0 {
-        return 0;
-    }
-    (day as usize - 1) * limits::HOURS
-}
-
-// The place of an hour of a day, in a month of that many days.
-pub fn place_of(days: u8, day: u8, hour: u8) -> Place
-    ensures { λ r. ⌜ r ≡ placeOf days day hour ⌝ }
+// The place of an hour of a day, counted from the month's first hour; an hour that no day has is past every place.
+// Whether the place is one of a month's is tested where it is used.
+pub fn place_of(day: u8, hour: u8) -> usize
+    ensures { λ r. ⌜ r ≡ placeOf day hour ⌝ }
 {
     let at = hour as usize;
-    Place {
-        inside: (1 <= day) & (day <= days) & (at < limits::HOURS),
-        at: hours_before(day) + at,
+    if (1 <= day) & (at < limits::HOURS) {
+        return places(day - 1) + at;
     }
+    limits::PLACES
 }
 
 // The head of a fresh month of 28 to 31 days.
@@ -73,22 +48,12 @@ pub fn open(days: u8) -> Headed
     if is_days(days) {
         return Headed {
             refusal: 0,
-            head: fresh(days),
+            head: fresh_head(days),
         };
     }
     Headed {
         refusal: refusals::NOT_IN_MONTH,
-        head: fresh(0),
-    }
-}
-
-fn fresh(days: u8) -> Head
-    ensures { λ r. ⌜ r ≡ freshHead days ⌝ }
-{
-    Head {
-        days: days,
-        closed: false,
-        fee: Dollars(0),
+        head: fresh_head(0),
     }
 }
 
@@ -97,14 +62,18 @@ pub fn fits(head: Head) -> bool
     ensures { λ r. ⌜ r ≡ headFits head ⌝ }
 {
     let fee = head.fee;
-    is_days(head.days) & (fee_refusal(fee) == 0)
+    is_days(head.days) & (loss_fee_refusal(fee) == 0)
 }
 
 // Sets the loss fee, which replaces the former.
 pub fn loss_fee(head: Head, amount: Dollars) -> Headed
     ensures { λ r. ⌜ r ≡ headedOf head (Call.lossFee tt (amount .0)) ⌝ }
 {
-    let open = whole::unless(!head.closed, refusals::MONTH_CLOSED, fee_refusal(amount));
+    let open = whole::unless(
+        !head.closed,
+        refusals::MONTH_CLOSED,
+        loss_fee_refusal(amount),
+    );
     let k = whole::unless(fits(head), refusals::NOT_REACHABLE, open);
     if k == 0 {
         let next = Head {
@@ -145,4 +114,31 @@ pub fn close(head: Head) -> Headed
         refusal: k,
         head: head,
     }
+}
+
+fn is_days(days: u8) -> bool
+    ensures { λ r. ⌜ r ≡ isDays days ⌝ }
+{
+    (limits::LEAST_DAYS <= days) & (days <= limits::MOST_DAYS)
+}
+
+fn fresh_head(days: u8) -> Head
+    ensures { λ r. ⌜ r ≡ freshHead days ⌝ }
+{
+    Head {
+        days: days,
+        closed: false,
+        fee: Dollars(0),
+    }
+}
+
+fn loss_fee_refusal(fee: Dollars) -> u8
+    ensures { λ r. ⌜ r ≡ lossFeeRefusal (fee .0) ⌝ }
+{
+    let a = fee.0;
+    whole::unless(
+        whole::within(a, 0, limits::LOSS_FEE),
+        refusals::BAD_MONEY,
+        0,
+    )
 }

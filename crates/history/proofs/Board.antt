@@ -2,8 +2,8 @@
 -- that a fold over the places is the fold over the days' hours. Places are read after a `set`; the rest is by the laws of days. Assumes nothing.
 use Prim.Native.Nat.{ℕ, zero, suc, _+_, _-_, _<_, _≤_}
 use mathlib.Core.Path.{_≡_, refl, sym, ap, ap₂, _∙_, subst⁻¹}
-use mathlib.Core.Bool.{Bool, true, false, _&&_, _||_}
-use mathlib.Core.List.{List, [], _∷_, foldl}
+use mathlib.Core.Bool.{Bool, true, false, not, _&&_, _||_}
+use mathlib.Core.List.{List, [], _∷_, _++_, foldl}
 use mathlib.Core.Option.{Option, none, some}
 use native.Mathlib.Omega.{arith}
 use lib.Dec.{leb, ltb, eqb}
@@ -11,14 +11,16 @@ use lib.IntN.{ℤ, pos}
 use lib.ListN.{length, getD, set, replicate, length-set, length-replicate, List·getD-eq-default}
 use lib.Seq.{getD-set-same, getD-set-other}
 use borrow.Author.Tests.{leb-true, le-leb, ltb-true, ltb-false, lt-ltb, le-ltb, eqb-true, eqb-false, eq-eqb}
-use Rattle.whole.specs.Choice.{pick, kept}
+use Rattle.whole.specs.Choice.{pick, inOrder, kept}
 use Rattle.whole.specs.Folds.{foldTo}
 use Rattle.whole.proofs.Choice.{both, and-both, clash, by-test, passed}
 use Rattle.whole.proofs.Folds.{all-at, all-of, fold-same, fold-tail}
-use Rattle.history.specs.Rules.{Call, Deed, Rules, Sound, hoursTo, isAmong, inside, placeIn, placesOf}
-use Rattle.history.specs.Board.{Board, markAt, itemAt, fitsAt, feesFit, wellFormed, fresh, placed, rulingOn, nextOn, handed, runsFit, ledgerRefusal, lentRefusal, ruledAt, handedAt, ruledIn, handedIn}
+use Rattle.units.specs.Refusals.{wrongLength, notReachable, monthClosed, notInMonth}
+use Rattle.history.specs.Rules.{Call, Deed, Rules, Sound, hoursTo, isAmong, inside, placeIn, placesOf, left, hourTests, deedTests, placeTests, callTests}
+use Rattle.history.specs.Board.{Board, told, markAt, itemAt, filledAt, fitsAt, feesFit, wellFormed, fresh, placed, rulingOn, nextOn, handed}
+use Rattle.history.specs.Inner.{runsFit, ledgerRefusal, lentTests, ruledAt, handedAt, ruledIn, handedIn, hourIn, PlaceFor}
 use Rattle.history.specs.History.{readAs}
-use Rattle.history.proofs.Days.{place-below, place-same, fold-hours}
+use Rattle.history.proofs.Days.{place-below, place-same, hour-at, fold-hours}
 
 default-at : {X : Type 0} (n p : ℕ) (x : X) → getD (replicate n x) p x ≡ x
 default-at zero p x = refl
@@ -80,10 +82,14 @@ pub record Held {F M B : Type 0} (R : Rules F M B) (b : Board F M B) : Type 0 wh
   pub marks : length (b .marks) ≡ R .places
   pub amounts : length (b .amounts) ≡ R .places
 
+-- fees that fit are those of a month that opens
+fit-opens : {F M B : Type 0} (R : Rules F M B) (b : Board F M B) → feesFit R b ≡ true → R .opens ≡ true
+fit-opens R b e = every-at (λ f. eqb (R .checkFee f (b .fee f)) 0) (λ _ _. false) (λ f g e. clash e) (R .fees) (R .opens) e .0
+
 -- a month that is in form is one that opens
 pub well-opens : {F M B : Type 0} (R : Rules F M B) (b : Board F M B) → wellFormed R b ≡ true → R .opens ≡ true
 unfolding wellFormed
-well-opens R b w = every-at (λ f. eqb (R .checkFee f (b .fee f)) 0) (λ _ _. false) (λ f g e. clash e) (R .fees) (R .opens) (and-both (feesFit R b) _ w .0) .0
+well-opens R b w = fit-opens R b (and-both (feesFit R b) _ w .0)
 
 -- what stands at a place, and at an hour
 abbrev pub placeOn : {F M B : Type 0} → Rules F M B → Board F M B → ℕ → Option (M × B)
@@ -110,23 +116,91 @@ empty-if : {A : Type 0} (m t ok blank : Bool) (a : A) → t ≡ false → pick m
 empty-if false t ok blank a e h = refl
 empty-if true t ok blank a e h = clash (ap (λ u. u && ok) (sym e) ∙ h)
 
--- a call in place, by its day and hour, is that at the place that they have
-module _ {F M B : Type 0} (R : Rules F M B) (b : Board F M B) (d x : ℕ) where
+-- ---- a call in place, by its day and hour, is that at the place that they have
+
+-- every place of a month stands for one of its hours
+pub record HourHere {F M B : Type 0} (R : Rules F M B) (p : ℕ) : Type 0 where
+  pub day : ℕ
+  pub hour : ℕ
+  pub within : inside R day hour ≡ true
+  pub for : PlaceFor R day hour p
+
+pub hour-here : {F M B : Type 0} (R : Rules F M B) (p : ℕ) → p < placesOf R → HourHere R p
+hour-here R p h =
+    let k = hour-at (R .hoursOf) (R .days) p h in
+    let i = of-hour R (k .day) (k .hour) (k .one) (k .last) (k .short) in
+    record { day = k .day; hour = k .hour; within = i; for = record { within = λ _. lt-ltb p (placesOf R) h ∙ sym i; here = λ _. sym (k .is) } }
+
+-- after a test that fails nothing counts: neither what is tested nor what would be left
+abbrev Stopped : {X : Type 0} → (List (Bool × ℕ) → ℕ) → X → Type 0
+Stopped {X} k old = (us vs : List (Bool × ℕ)) (x y : X) → (k us ≡ k vs) × (kept (k us) x old ≡ kept (k vs) y old)
+
+unfit : {X : Type 0} (runs : Bool) (old : X) → Stopped (λ us. inOrder ((runs, wrongLength) ∷ (false, notReachable) ∷ us)) old
+unfit true old us vs x y = (refl, refl)
+unfit false old us vs x y = (refl, refl)
+
+outside : {X : Type 0} (runs fees free : Bool) (old : X)
+    → Stopped (λ us. inOrder ((runs, wrongLength) ∷ (fees, notReachable) ∷ (free, monthClosed) ∷ (false, notInMonth) ∷ us)) old
+outside false fees free old us vs x y = (refl, refl)
+outside true false free old us vs x y = (refl, refl)
+outside true true false old us vs x y = (refl, refl)
+outside true true true old us vs x y = (refl, refl)
+
+module _ {F M B : Type 0} (R : Rules F M B) (b : Board F M B) (d x p : ℕ) (for : PlaceFor R d x p) where
+  -- the number and the board, where a place is inside the month or not
+  abbrev tests : Deed (M × B) → Bool → ℕ → List (Bool × ℕ)
+  tests deed within q = lentTests R b ++ placeTests R (b .closed) within (markAt R b q) deed
+
+  abbrev Same : Deed (M × B) → Bool → ℕ → Bool → ℕ → Type 0
+  Same deed v p w q =
+      (inOrder (tests deed v p) ≡ inOrder (tests deed w q))
+      × (kept (inOrder (tests deed v p)) (placed R b p (left R deed)) b ≡ kept (inOrder (tests deed w q)) (placed R b q (left R deed)) b)
+
+  same : (deed : Deed (M × B)) → Same deed (ltb p (placesOf R)) p (inside R d x) (placeIn R d x)
+  same deed =
+      by-test (feesFit R b) fits
+      (λ (e : feesFit R b ≡ false).
+      let rest : Bool → ℕ → List (Bool × ℕ) = λ v q. placeTests R (b .closed) v (markAt R b q) deed in
+      rw e (unfit (runsFit R b) b (rest (ltb p (placesOf R)) p) (rest (inside R d x) (placeIn R d x)) _ _))
+    where
+      fits : feesFit R b ≡ true → Same deed (ltb p (placesOf R)) p (inside R d x) (placeIn R d x)
+      fits e =
+          let w = for .within (fit-opens R b e) in
+          by-test (inside R d x)
+          (λ (i : inside R d x ≡ true). (
+            ap₂ (λ v q. inOrder (tests deed v q)) w (for .here i),
+            ap₂ (λ v q. kept (inOrder (tests deed v q)) (placed R b q (left R deed)) b) w (for .here i),
+          ))
+          (λ (i : inside R d x ≡ false).
+          rw (w, i)
+          (outside (runsFit R b) (feesFit R b) (not (b .closed)) b (deedTests R (markAt R b p) deed) (deedTests R (markAt R b (placeIn R d x)) deed) _ _))
+
   -- what a call at that place answers and leaves
   abbrev pub CameAt : Call F (M × B) → Deed (M × B) → Type 0
-  CameAt c deed = (ruledAt R b (inside R d x) (placeIn R d x) deed ≡ ruledIn R b c) × (handedAt R b (inside R d x) (placeIn R d x) deed ≡ handedIn R b c)
+  CameAt c deed = (ruledAt R b p deed ≡ ruledIn R b c) × (handedAt R b p deed ≡ handedIn R b c)
 
   pub post-at : (a : M × B) → CameAt (Call.post d x a) (Deed.posts a)
   unfolding rulingOn nextOn ruledAt handedAt ruledIn handedIn
-  post-at a = (refl, refl)
+  post-at a = same (Deed.posts a)
 
   pub replace-at : (a : M × B) → CameAt (Call.replace d x a) (Deed.replaces a)
   unfolding rulingOn nextOn ruledAt handedAt ruledIn handedIn
-  replace-at a = (refl, refl)
+  replace-at a = same (Deed.replaces a)
 
   pub withdraw-at : CameAt (Call.withdraw d x) Deed.withdraws
   unfolding rulingOn nextOn ruledAt handedAt ruledIn handedIn
-  withdraw-at = (refl, refl)
+  withdraw-at = same Deed.withdraws
+
+  -- and so of the read-out of an hour, of a board whose fees fit
+  pub hour-told-at : feesFit R b ≡ true
+      → hourIn R b p ≡ told (inOrder (lentTests R b ++ hourTests (inside R d x) (markAt R b (placeIn R d x)))) (R .worth (itemAt R b (placeIn R d x)))
+  unfolding hourIn
+  hour-told-at e =
+      let w = for .within (fit-opens R b e) in
+      let read : Bool → ℕ → ℕ × ℤ = λ v q. told (inOrder (lentTests R b ++ hourTests v (markAt R b q))) (R .worth (itemAt R b q)) in
+      by-test (inside R d x)
+      (λ (i : inside R d x ≡ true). ap₂ read w (for .here i))
+      (λ (i : inside R d x ≡ false). rw (w, i, e) (by-test (runsFit R b) (λ (r : runsFit R b ≡ true). rw r) (λ (r : runsFit R b ≡ false). rw r)))
 
 -- on runs that are the ledger's, the test in place is that of 22
 pub ledger-test : {F M B : Type 0} (R : Rules F M B) (b : Board F M B) → runsFit R b ≡ true → eqb (ledgerRefusal R b) 0 ≡ wellFormed R b
@@ -161,12 +235,12 @@ module _ {F M B : Type 0} (R : Rules F M B) (sound : Sound R) where
   pub good-runs : (b : Board F M B) → Good R b → runsFit R b ≡ true
   good-runs b g = both (eq-eqb _ _ (g .marks-long)) (eq-eqb _ _ (g .amounts-long))
 
-  pub good-lent : (b : Board F M B) → Good R b → (rest : ℕ) → lentRefusal R b rest ≡ rest
-  good-lent b g rest = rw (good-runs b g, good-fees b g)
+  pub good-lent : (b : Board F M B) → Good R b → (ts : List (Bool × ℕ)) → inOrder (lentTests R b ++ ts) ≡ inOrder ts
+  good-lent b g ts = rw (good-runs b g, good-fees b g)
 
   pub good-refusal : (b : Board F M B) → Good R b → (c : Call F (M × B)) → ruledIn R b c ≡ rulingOn R b c
-  unfolding ruledIn
-  good-refusal b g c = good-lent b g (rulingOn R b c)
+  unfolding ruledIn rulingOn
+  good-refusal b g c = good-lent b g (callTests R (b .closed) (filledAt R b) c)
 
   pub good-left : (b : Board F M B) → Good R b → (c : Call F (M × B)) → handedIn R b c ≡ handed R b c
   unfolding handedIn handed

@@ -2,7 +2,7 @@
 -- different hours have different places, each place is some hour's, and a fold over the places is the fold over the days of the folds over
 -- their hours. By induction on the days. Assumes nothing.
 use Prim.Native.Nat.{ℕ, zero, suc, _+_, _*_, _-_, _≤_, _<_}
-use mathlib.Core.Path.{_≡_, refl, sym, ap, ap₂, _∙_, subst, subst⁻¹}
+use mathlib.Core.Path.{_≡_, refl, sym, ap, ap₂, _∙_, subst}
 use mathlib.Core.Bool.{Bool, true, false, _&&_}
 use native.Mathlib.Nat.{not-suc-le-zero, le-refl, add-zero, add-suc, suc-mul, zero-mul}
 use native.Mathlib.Omega.{arith}
@@ -88,22 +88,3 @@ pub hours-even : (h k : ℕ) → hoursTo (λ _. h) k ≡ k * h
 unfolding hoursTo
 hours-even h zero = sym (zero-mul h)
 hours-even h (suc k) = rw (hours-even h k) (sym (suc-mul k h))
-
--- days of 24 hours, but one that may have 25: one place more
-pub hours-odd : (H : ℕ → ℕ) (odd : ℕ) → ((d : ℕ) → (d ≡ odd → ⊥) → H d ≡ 24) → H odd ≤ 25 → (k : ℕ) → hoursTo H k ≤ k * 24 + 1
-unfolding hoursTo
-hours-odd H odd even most k = both-ways k .0
-  where
-    both-ways : (k : ℕ) → (hoursTo H k ≤ k * 24 + 1) × (k < odd → hoursTo H k ≤ k * 24)
-    both-ways zero = (omega arith, λ _. omega arith)
-    both-ways (suc k) =
-        let b = both-ways k in
-        by-test (eqb (suc k) odd)
-        (λ (t : eqb (suc k) odd ≡ true).
-        let e = eqb-true (suc k) odd t in
-        let m : H (suc k) ≤ 25 = subst⁻¹ (λ n. H n ≤ 25) e most in
-        let l = b .1 (omega arith) in
-        (omega arith, λ o. absurd (omega arith)))
-        (λ (t : eqb (suc k) odd ≡ false).
-        let m = even (suc k) (eqb-false (suc k) odd t) in
-        (omega (arith, b .0), λ o. let l = b .1 (omega arith) in omega arith))

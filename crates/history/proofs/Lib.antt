@@ -1,4 +1,5 @@
 -- The theory of any ledger: days and places, the board, one call, the read-outs, demand 3, and refusal 22.
+pub mod Orders
 pub mod Days
 pub mod Board
 pub mod Steps

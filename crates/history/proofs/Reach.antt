@@ -11,10 +11,10 @@ use lib.Dec.{leb, ltb, eqb}
 use lib.IntN.{ℤ, pos}
 use lib.ListN.{replicate}
 use borrow.Author.Tests.{ltb-true}
-use Rattle.whole.specs.Choice.{pick, unless, orElse}
+use Rattle.whole.specs.Choice.{pick, unless, orElse, inOrder}
 use Rattle.whole.proofs.Choice.{by-test, and-both, clash, kept-any, kept-new}
 use Rattle.units.specs.Refusals.{notReachable, notInMonth, placeFilled, placeEmpty, monthClosed}
-use Rattle.history.specs.Rules.{Call, Deed, Rules, Sound, hoursTo, isAmong, inside, placeIn, placesOf, deedRuling, rulingAt}
+use Rattle.history.specs.Rules.{Call, Deed, Rules, Sound, hoursTo, isAmong, inside, placeIn, placesOf, deedTests, placeTests}
 use Rattle.history.specs.Board.{Board, markAt, itemAt, filledAt, fresh, placed, wellFormed, rulingOn, nextOn, handed, hourOn, dayOn, partOn, refusalOf, orReachable, postsOfDay, postsTo}
 use Rattle.history.specs.History.{Recorded}
 use Rattle.history.specs.Demand.{Ledger, Run, opened, called, Reachable, Just22, Exact22}
@@ -285,22 +285,22 @@ module _ {F M B : Type 0} (R : Rules F M B) (small : Small R) (b : Board F M B) 
   empty-small : (t : Bool) → unless t placeEmpty 0 < notReachable
   empty-small t = unless-small t placeEmpty 0 (omega arith) (omega arith)
 
-  deed-small : (filled : Bool) (deed : Deed (M × B)) → deedRuling R filled deed < notReachable
+  deed-small : (filled : Bool) (deed : Deed (M × B)) → inOrder (deedTests R filled deed) < notReachable
   deed-small filled (Deed.posts a) = or-else-small (R .check a) (unless (not filled) placeFilled 0) (small .check a) (unless-small (not filled) placeFilled 0 (omega arith) (omega arith))
   deed-small filled (Deed.replaces a) = or-else-small (R .check a) (unless filled placeEmpty 0) (small .check a) (empty-small filled)
   deed-small filled Deed.withdraws = empty-small filled
 
-  at-small : (within filled : Bool) (deed : Deed (M × B)) → rulingAt R (b .closed) within filled deed < notReachable
+  at-small : (within filled : Bool) (deed : Deed (M × B)) → inOrder (placeTests R (b .closed) within filled deed) < notReachable
   at-small within filled deed =
-      unless-small (not (b .closed)) monthClosed (unless within notInMonth (deedRuling R filled deed)) (omega arith)
-      (unless-small within notInMonth (deedRuling R filled deed) (omega arith) (deed-small filled deed))
+      unless-small (not (b .closed)) monthClosed (unless within notInMonth (inOrder (deedTests R filled deed))) (omega arith)
+      (unless-small within notInMonth (inOrder (deedTests R filled deed)) (omega arith) (deed-small filled deed))
 
   pub ruling-small : (c : Call F (M × B)) → rulingOn R b c < notReachable
   unfolding rulingOn
   ruling-small (Call.post d x a) = at-small (inside R d x) (filledAt R b d x) (Deed.posts a)
   ruling-small (Call.replace d x a) = at-small (inside R d x) (filledAt R b d x) (Deed.replaces a)
   ruling-small (Call.withdraw d x) = at-small (inside R d x) (filledAt R b d x) Deed.withdraws
-  ruling-small (Call.lossFee f z) = unless-small (not (b .closed)) monthClosed (R .checkFee f z) (omega arith) (small .checkFee f z)
+  ruling-small (Call.lossFee f z) = unless-small (not (b .closed)) monthClosed (orElse (R .checkFee f z) 0) (omega arith) (or-else-small (R .checkFee f z) 0 (small .checkFee f z) (omega arith))
   ruling-small Call.close = unless-small (not (b .closed)) monthClosed 0 (omega arith) (omega arith)
 
   hour-small : (d x : ℕ) → hourOn R b d x .0 < notReachable

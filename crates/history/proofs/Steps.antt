@@ -6,10 +6,11 @@ use mathlib.Core.Bool.{Bool, true, false, not, _&&_}
 use mathlib.Core.List.{List, [], _∷_}
 use mathlib.Core.Option.{none, some}
 use lib.Dec.{eqb}
-use Rattle.whole.specs.Choice.{pick}
+use Rattle.whole.specs.Choice.{pick, inOrder}
 use Rattle.whole.proofs.Choice.{passed, both-passed, kept-any, kept-by}
-use Rattle.history.specs.Rules.{Call, Deed, Rules, Sound, inside, placeIn, deedRuling, rulingAt, ruling}
-use Rattle.history.specs.Board.{Board, itemAt, filledAt, fresh, placed, rulingOn, nextOn, handed, ruledIn, handedIn}
+use Rattle.history.specs.Rules.{Call, Deed, Rules, Sound, inside, placeIn, deedTests, placeTests, ruling}
+use Rattle.history.specs.Board.{Board, itemAt, filledAt, fresh, placed, rulingOn, nextOn, handed}
+use Rattle.history.specs.Inner.{ruledIn, handedIn}
 use Rattle.history.specs.History.{Recorded, leaves, lastItem, feeAfter, lastFee, closedAfter, isClosed, stands, rulingAfter}
 use Rattle.history.proofs.Board.{Good, good-refusal, standsOn, of-blank, fresh-good, fresh-stands, set-good, set-stands}
 
@@ -36,8 +37,8 @@ stands-pick false x = refl
 
 module _ {F M B : Type 0} (R : Rules F M B) where
   -- the place is asked of an hour of the month alone
-  at-same : (closed within u v : Bool) (deed : Deed (M × B)) → (within ≡ true → u ≡ v) → rulingAt R closed within u deed ≡ rulingAt R closed within v deed
-  at-same closed true u v deed e = ap (λ t. rulingAt R closed true t deed) (e refl)
+  at-same : (closed within u v : Bool) (deed : Deed (M × B)) → (within ≡ true → u ≡ v) → inOrder (placeTests R closed within u deed) ≡ inOrder (placeTests R closed within v deed)
+  at-same closed true u v deed e = ap (λ t. inOrder (placeTests R closed true t deed)) (e refl)
   at-same closed false u v deed e = refl
 
   ruling-same : (closed : Bool) (f g : ℕ → ℕ → Bool) → ((d x : ℕ) → inside R d x ≡ true → f d x ≡ g d x) → (c : Call F (M × B)) → ruling R closed f c ≡ ruling R closed g c
@@ -59,7 +60,7 @@ module _ {F M B : Type 0} (R : Rules F M B) where
       in-month d x i = rw i
 
   -- a call at an hour that is let through
-  through : (closed within filled : Bool) (deed : Deed (M × B)) → rulingAt R closed within filled deed ≡ 0 → (within ≡ true) × (deedRuling R filled deed ≡ 0)
+  through : (closed within filled : Bool) (deed : Deed (M × B)) → inOrder (placeTests R closed within filled deed) ≡ 0 → (within ≡ true) × (inOrder (deedTests R filled deed) ≡ 0)
   through closed within filled deed e = passed within 5 _ (passed (not closed) 8 _ e .1)
 
   module _ (sound : Sound R) where
@@ -106,7 +107,7 @@ module _ {F M B : Type 0} (R : Rules F M B) where
           }
         where
           ok : R .checkFee f z ≡ 0
-          ok = passed (not (b .closed)) 8 (R .checkFee f z) e .1
+          ok = both-passed (R .checkFee f z) 0 (passed (not (b .closed)) 8 _ e .1) .0
 
           set-fee : (t : Bool) (k : F) → R .sameFee f k ≡ t → R .checkFee k (pick t z (b .fee k)) ≡ 0
           set-fee true k s = ap (λ n. R .checkFee n z) (sym (sound .same-is f k s)) ∙ ok

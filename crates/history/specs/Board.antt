@@ -5,11 +5,11 @@ use mathlib.Core.Bool.{Bool, true, false, _&&_}
 use mathlib.Core.List.{List, [], _∷_, foldl}
 use lib.Dec.{leb, ltb, eqb}
 use lib.IntN.{ℤ, pos, _-ℤ_}
-use lib.ListN.{length, getD, set, replicate}
+use lib.ListN.{getD, set, replicate}
 use Rattle.whole.specs.Choice.{pick, unless, inOrder, kept}
 use Rattle.whole.specs.Folds.{sumTo, countTo, allTo}
-use Rattle.units.specs.Refusals.{wrongLength, notReachable, notInMonth, placeEmpty}
-use Rattle.history.specs.Rules.{Call, post, replace, withdraw, lossFee, close, Deed, posts, replaces, withdraws, Rules, inside, placeIn, placesOf, left, rulingAt, ruling}
+use Rattle.units.specs.Refusals.{notReachable, notInMonth}
+use Rattle.history.specs.Rules.{Call, post, replace, withdraw, lossFee, close, posts, replaces, withdraws, Rules, hourTests, inside, placeIn, placesOf, left, ruling}
 
 pub record Board (F M B : Type 0) : Type 0 where
   pub closed : Bool
@@ -71,12 +71,10 @@ module _ {F M B : Type 0} (R : Rules F M B) where
 
   -- ---- the read-outs, 22 left aside
 
-  -- one hour, by whether it is inside the month and its place: 6, 8
-  abbrev pub hourRulingOn : Board F M B → Bool → ℕ → ℕ
-  hourRulingOn b within p = inOrder ((within, notInMonth) ∷ (markAt b p, placeEmpty) ∷ [])
-
+  -- one hour, by whether it is inside the month and its place filled: 6, 8
   unfoldable pub hourOn : Board F M B → ℕ → ℕ → ℕ × ℤ
-  hourOn b day hour = told (hourRulingOn b (inside R day hour) (placeIn R day hour)) (R .worth (itemAt b (placeIn R day hour)))
+  hourOn b day hour =
+      told (inOrder (hourTests (inside R day hour) (filledAt b day hour))) (R .worth (itemAt b (placeIn R day hour)))
 
   -- a day's sum: 6
   unfoldable pub dayOn : Board F M B → ℕ → ℕ × ℤ
@@ -111,48 +109,6 @@ module _ {F M B : Type 0} (R : Rules F M B) where
   -- a read-out's answer; a refusal has nothing beside it
   abbrev pub orReachable : {X : Type 0} → X → Board F M B → ℕ × X → ℕ × X
   orReachable nothing b t = pick (wellFormed b) t (notReachable, nothing)
-
-  -- ---- in place, on two lent runs: 1 where a run is not as long as the ledger's places, then 22
-
-  abbrev pub runsFit : Board F M B → Bool
-  runsFit b = eqb (length (b .marks)) (R .places) && eqb (length (b .amounts)) (R .places)
-
-  -- opening in place: 1, 6; and what it leaves, every place empty, or the board as it was
-  unfoldable pub openRuling : Board F M B → ℕ
-  openRuling b = inOrder ((runsFit b, wrongLength) ∷ (R .opens, notInMonth) ∷ [])
-
-  unfoldable pub openLeft : Board F M B → Board F M B
-  openLeft b = kept (openRuling b) fresh b
-
-  -- whether a ledger in place is one that runs of calls hand back: 1, 22
-  unfoldable pub ledgerRefusal : Board F M B → ℕ
-  ledgerRefusal b = inOrder ((runsFit b, wrongLength) ∷ (wellFormed b, notReachable) ∷ [])
-
-  -- a single call looks at no place but its own: of 22 it tests what stands beside the places
-  abbrev pub lentRefusal : Board F M B → ℕ → ℕ
-  lentRefusal b rest = unless (runsFit b) wrongLength (unless (feesFit b) notReachable rest)
-
-  -- what a call at a place answers and leaves, where the place is inside the month or not: 1, 22, then the ruling; a refusal leaves the board as it was
-  unfoldable pub ruledAt : Board F M B → Bool → ℕ → Deed (M × B) → ℕ
-  ruledAt b within p deed = lentRefusal b (rulingAt R (b .closed) within (markAt b p) deed)
-
-  unfoldable pub handedAt : Board F M B → Bool → ℕ → Deed (M × B) → Board F M B
-  handedAt b within p deed = kept (ruledAt b within p deed) (placed b p (left R deed)) b
-
-  -- a call by its day and hour: of the place that they have it is the same
-  unfoldable pub ruledIn : Board F M B → Call F (M × B) → ℕ
-  ruledIn b c = lentRefusal b (rulingOn b c)
-
-  unfoldable pub handedIn : Board F M B → Call F (M × B) → Board F M B
-  handedIn b c = kept (ruledIn b c) (nextOn b c) b
-
-  -- one hour in place: 1, 22, 6, 8
-  unfoldable pub hourIn : Board F M B → Bool → ℕ → ℕ × ℤ
-  hourIn b within p = told (lentRefusal b (hourRulingOn b within p)) (R .worth (itemAt b p))
-
-  -- the month total in place: 1, 22
-  unfoldable pub totalIn : Board F M B → ℕ × ℤ
-  totalIn b = told (ledgerRefusal b) (totalOn b)
 
   -- ---- a board as posts: its standing hours in order of day and hour, newest first (#111)
 

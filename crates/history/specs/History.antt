@@ -6,10 +6,10 @@ use mathlib.Core.List.{List, [], _∷_, foldl}
 use mathlib.Core.Option.{Option, none, some}
 use lib.Dec.{leb, eqb}
 use lib.IntN.{ℤ, pos, _-ℤ_}
-use Rattle.whole.specs.Choice.{pick, unless, kept}
+use Rattle.whole.specs.Choice.{pick, unless, inOrder, kept}
 use Rattle.whole.specs.Folds.{sumTo, addTo, countTo}
-use Rattle.units.specs.Refusals.{notInMonth, placeEmpty}
-use Rattle.history.specs.Rules.{Call, post, replace, withdraw, lossFee, close, Rules, inside, ruling}
+use Rattle.units.specs.Refusals.{notInMonth}
+use Rattle.history.specs.Rules.{Call, post, replace, withdraw, lossFee, close, Rules, hourTests, inside, ruling}
 use Rattle.history.specs.Board.{told}
 
 -- a call and its answer: 0, or the number of its refusal
@@ -79,7 +79,7 @@ module _ {F M B : Type 0} (R : Rules F M B) where
   -- one hour: 6, 8
   abbrev pub hourIs : List (Recorded F (M × B)) → ℕ → ℕ → ℕ × ℤ
   hourIs h day hour =
-      told (unless (inside R day hour) notInMonth (unless (stands (lastItem h day hour)) placeEmpty 0)) (readAs (R .worth) (lastItem h day hour))
+      told (inOrder (hourTests (inside R day hour) (stands (lastItem h day hour)))) (readAs (R .worth) (lastItem h day hour))
 
   -- the sum over a day's hours, and over the days, of what stands there, read as any amount
   abbrev pub daySum : (M × B → ℤ) → List (Recorded F (M × B)) → ℕ → ℤ

@@ -4,9 +4,9 @@ use Prim.Native.Nat.{ℕ, zero, suc, _+_, _-_, _≤_, _<_}
 use mathlib.Core.Path.{_≡_}
 use mathlib.Core.Bool.{Bool, true, false, not, _&&_, _||_}
 use mathlib.Core.List.{List, [], _∷_}
-use lib.Dec.{leb, ltb}
+use lib.Dec.{leb, ltb, eqb}
 use lib.IntN.{ℤ, pos}
-use Rattle.whole.specs.Choice.{unless, orElse}
+use Rattle.whole.specs.Choice.{inOrder}
 use Rattle.whole.specs.Folds.{sumTo}
 use Rattle.units.specs.Refusals.{monthClosed, notInMonth, placeFilled, placeEmpty}
 
@@ -58,6 +58,14 @@ abbrev pub isAmong : {F : Type 0} → (F → F → Bool) → List F → F → Bo
 isAmong same [] f = false
 isAmong same (g ∷ gs) f = same g f || isAmong same gs f
 
+-- a number that refuses by itself, 0 for none, among the tests of an order
+abbrev pub own : ℕ → Bool × ℕ
+own k = (eqb k 0, k)
+
+-- the read-out of an hour, inside the month or not and filled or not: 6, 8
+abbrev pub hourTests : Bool → Bool → List (Bool × ℕ)
+hourTests within filled = (within, notInMonth) ∷ (filled, placeEmpty) ∷ []
+
 module _ {F M B : Type 0} (R : Rules F M B) where
   -- days from 1, hours from 0
   abbrev pub inside : ℕ → ℕ → Bool
@@ -71,29 +79,34 @@ module _ {F M B : Type 0} (R : Rules F M B) where
   abbrev pub placesOf : ℕ
   placesOf = hoursTo (R .hoursOf) (R .days)
 
-  -- the item's own number (3), then 7 or 8 by whether the place is filled
-  abbrev pub deedRuling : Bool → Deed (M × B) → ℕ
-  deedRuling filled (posts a) = orElse (R .check a) (unless (not filled) placeFilled 0)
-  deedRuling filled (replaces a) = orElse (R .check a) (unless filled placeEmpty 0)
-  deedRuling filled withdraws = unless filled placeEmpty 0
-
-  -- what it leaves at its place
+  -- what a deed leaves at its place
   abbrev pub left : Deed (M × B) → M × B
   left (posts a) = R .enter a
   left (replaces a) = R .enter a
   left withdraws = R .blank
 
-  -- the order of refusals at an hour, where the month is closed or not, the hour inside it or not and filled or not: 9, 6, the item's own number (3),
-  -- then 7 or 8. 0 lets the call through.
-  abbrev pub rulingAt : Bool → Bool → Bool → Deed (M × B) → ℕ
-  rulingAt closed within filled deed = unless (not closed) monthClosed (unless within notInMonth (deedRuling filled deed))
+  -- the item's own number (3), then 7 or 8 by whether the place is filled
+  abbrev pub deedTests : Bool → Deed (M × B) → List (Bool × ℕ)
+  deedTests filled (posts a) = own (R .check a) ∷ (not filled, placeFilled) ∷ []
+  deedTests filled (replaces a) = own (R .check a) ∷ (filled, placeEmpty) ∷ []
+  deedTests filled withdraws = (filled, placeEmpty) ∷ []
 
+  -- the order of refusals at an hour, where the month is closed or not, the hour inside it or not and filled or not: 9, 6, the item's own number (3),
+  -- then 7 or 8
+  abbrev pub placeTests : Bool → Bool → Bool → Deed (M × B) → List (Bool × ℕ)
+  placeTests closed within filled deed = (not closed, monthClosed) ∷ (within, notInMonth) ∷ deedTests filled deed
+
+  -- of any call; a fee has its own number (3)
+  abbrev pub callTests : Bool → (ℕ → ℕ → Bool) → Call F (M × B) → List (Bool × ℕ)
+  callTests closed filled (post d x a) = placeTests closed (inside d x) (filled d x) (posts a)
+  callTests closed filled (replace d x a) = placeTests closed (inside d x) (filled d x) (replaces a)
+  callTests closed filled (withdraw d x) = placeTests closed (inside d x) (filled d x) withdraws
+  callTests closed filled (lossFee f z) = (not closed, monthClosed) ∷ own (R .checkFee f z) ∷ []
+  callTests closed filled close = (not closed, monthClosed) ∷ []
+
+  -- what a call is answered: 0 lets it through
   abbrev pub ruling : Bool → (ℕ → ℕ → Bool) → Call F (M × B) → ℕ
-  ruling closed filled (post d x a) = rulingAt closed (inside d x) (filled d x) (posts a)
-  ruling closed filled (replace d x a) = rulingAt closed (inside d x) (filled d x) (replaces a)
-  ruling closed filled (withdraw d x) = rulingAt closed (inside d x) (filled d x) withdraws
-  ruling closed filled (lossFee f z) = unless (not closed) monthClosed (R .checkFee f z)
-  ruling closed filled close = unless (not closed) monthClosed 0
+  ruling closed filled c = inOrder (callTests closed filled c)
 
 -- rules by which a month opens and can be kept
 pub record Sound {F M B : Type 0} (R : Rules F M B) : Type 0 where

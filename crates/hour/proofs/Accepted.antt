@@ -23,7 +23,8 @@ use Rattle.units.specs.Limits.{isPrice, isFactor, arePowers, areFrequencies, ar
 use Rattle.curve.specs.Curve.{upperAt, lowerAt}
 use Rattle.score.specs.Score.{percentOutput, scoreOf}
 use Rattle.score.proofs.Laws.{score-most}
-use Rattle.score.proofs.Accepted.{Scores, scores-plain}
+use Rattle.score.proofs.Accepted.{scores-plain}
+use Rattle.score.specs.Accepted.{Scores}
 use Rattle.rate.specs.Rolling.{rolling, smallest, hourlyRate}
 use Rattle.rate.specs.declared.Rated.{Rated}
 use Rattle.rate.proofs.Rates.{are-scores, rate-granted, rate-within}
@@ -32,9 +33,10 @@ use Rattle.bands.specs.declared.Factored.{Factored}
 use Rattle.bands.proofs.Laws.{lookup-passes, factor-granted, factor-inside}
 use Rattle.fees.specs.Fees.{fee, feeAnswer, qualityPart, qualityAnswer, chargeOf}
 use Rattle.fees.specs.declared.Charged.{Charged}
-use Rattle.fees.proofs.Laws.{EnergyFits, fee-granted, fees-fit, quality-granted, energy-granted}
+use Rattle.fees.proofs.Laws.{fee-granted, fees-fit, quality-granted, energy-granted}
+use Rattle.fees.specs.Accepted.{EnergyFits}
 use Rattle.hour.specs.Hour.{Service, dReg, eDReg, WholeHour, transfersOf, quarters, energyOf, energyPricesFit, targetsFit, hourRefusal, scoresOf, scoresLeft, grantedHour, settledOf, hourAnswer}
-use Rattle.hour.specs.Accepted.{transferIn, energyIn, Accepted}
+use Rattle.hour.specs.Accepted.{transferIn, energyIn, Accepted, HourFits}
 use Rattle.hour.specs.declared.Shift.{Shift}
 use Rattle.hour.specs.declared.Settlement.{Settlement}
 use Rattle.hour.proofs.Shift as shift
@@ -43,8 +45,8 @@ use Rattle.hour.proofs.hour.Reads as hour-reads
 use Rattle.hour.proofs.hour.Kinds as hour-kinds
 use Rattle.hour.proofs.dreg_hour.Reads as dreg-reads
 use Rattle.hour.proofs.dreg_hour.Kinds as dreg-kinds
-use Rattle.hour.proofs.Laws.{Fit, fit, fit-none, Long, long, length-transfers, transfer-at, transfers-fit, refusal-is, hour-granted, scores-granted}
-use Rattle.hour.proofs.Calls.{hourHanded, hourRun, hourAfter, dRegHanded, dRegRun, dRegAfter}
+use Rattle.hour.proofs.Laws.{fit, fit-none, Long, long, length-transfers, transfer-at, transfers-fit, refusal-is, hour-granted, scores-granted}
+use Rattle.hour.specs.Calls.{hourHanded, hourRun, dRegHanded, dRegRun}
 
 -- what is shifted has five targets
 abbrev pub Five : Service → Type 0
@@ -76,7 +78,7 @@ energy-plain powers dReg long readings prices targets five = refl
 energy-plain powers (eDReg s) long readings prices targets five =
     ap (λ (x : Charged). x .dollars .0) (energy-granted (energy-fit powers s long readings prices targets five))
 
-module _ (h : WholeHour) (places : ℕ) (f : Fit h places) (five : Five (h .service)) where
+module _ (h : WholeHour) (places : ℕ) (f : HourFits h places) (five : Five (h .service)) where
   lengths : Long (length (h .powers)) (length (h .frequencies)) places
   lengths = long (length (h .powers)) (length (h .frequencies)) places (f .lengths)
 
@@ -176,7 +178,7 @@ module _ (h : WholeHour) (run scores : List ℕ) (r : Settlement) (five : Five (
       (sym (answer ∙ hour-granted h (length run) zero))
       (settled-accepted h (length run) (fit h (length run) zero) five)
 
-  fits-accepts : Fit h (length run) → (r .refusal ≡ 0) × Accepted h scores r
+  fits-accepts : HourFits h (length run) → (r .refusal ≡ 0) × Accepted h scores r
   fits-accepts f = let none = number ∙ fit-none h (length run) f in (none, accepts none)
 
 -- what is handed in has five targets
@@ -188,19 +190,19 @@ module _ (κs : Lfts 5) (a : Dens κs hour-kinds.ps) (good : GoodsP κs hour-kin
   five : Five (hourHanded κs a .service)
   five = five-targets (a .1 .1 .1 .0) _ (good .1 .1 .1 .0)
 
-  pub hour-accepted : r .refusal ≡ 0 → Accepted (hourHanded κs a) (hourAfter κs s) r
-  hour-accepted = accepts (hourHanded κs a) (hourRun κs a) (hourAfter κs s) r five (met .0) (met .1)
+  pub hour-accepted : r .refusal ≡ 0 → Accepted (hourHanded κs a) (hourRun κs s) r
+  hour-accepted = accepts (hourHanded κs a) (hourRun κs a) (hourRun κs s) r five (met .0) (met .1)
 
-  pub hour-fit-accepted : Fit (hourHanded κs a) (length (hourRun κs a)) → (r .refusal ≡ 0) × Accepted (hourHanded κs a) (hourAfter κs s) r
-  hour-fit-accepted = fits-accepts (hourHanded κs a) (hourRun κs a) (hourAfter κs s) r five (met .0) (met .1)
+  pub hour-fit-accepted : HourFits (hourHanded κs a) (length (hourRun κs a)) → (r .refusal ≡ 0) × Accepted (hourHanded κs a) (hourRun κs s) r
+  hour-fit-accepted = fits-accepts (hourHanded κs a) (hourRun κs a) (hourRun κs s) r five (met .0) (met .1)
 
 -- a dReg hour, whose amount is its quality part
 module _ (κs : Lfts 5) (a : Dens κs dreg-kinds.ps) (r : Settlement) (s : AtExit (endedOf 5 dreg-kinds.ps dreg-kinds.r) κs) (met : dreg-reads.Post κs a r s) where
-  pub dreg-hour-accepted : r .refusal ≡ 0 → Accepted (dRegHanded κs a) (dRegAfter κs s) r
-  dreg-hour-accepted = accepts (dRegHanded κs a) (dRegRun κs a) (dRegAfter κs s) r tt (met .0) (met .1)
+  pub dreg-hour-accepted : r .refusal ≡ 0 → Accepted (dRegHanded κs a) (dRegRun κs s) r
+  dreg-hour-accepted = accepts (dRegHanded κs a) (dRegRun κs a) (dRegRun κs s) r tt (met .0) (met .1)
 
-  pub dreg-hour-fit-accepted : Fit (dRegHanded κs a) (length (dRegRun κs a)) → (r .refusal ≡ 0) × Accepted (dRegHanded κs a) (dRegAfter κs s) r
-  dreg-hour-fit-accepted = fits-accepts (dRegHanded κs a) (dRegRun κs a) (dRegAfter κs s) r tt (met .0) (met .1)
+  pub dreg-hour-fit-accepted : HourFits (dRegHanded κs a) (length (dRegRun κs a)) → (r .refusal ≡ 0) × Accepted (dRegHanded κs a) (dRegRun κs s) r
+  dreg-hour-fit-accepted = fits-accepts (dRegHanded κs a) (dRegRun κs a) (dRegRun κs s) r tt (met .0) (met .1)
 
   pub dreg-hour-amount : r .refusal ≡ 0 → r .amount .0 ≡ r .quality .0
   dreg-hour-amount none =

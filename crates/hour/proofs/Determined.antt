@@ -2,7 +2,7 @@
 -- Assumes nothing.
 use mathlib.Core.Path.{sym, _∙_}
 use Rattle.whole.specs.Determined.{Determined, LeftDetermined}
-use Rattle.hour.proofs.Calls.{hourAfter, dRegAfter}
+use Rattle.hour.specs.Calls.{hourRun, dRegRun}
 use Rattle.hour.proofs.hour.Reads as hour-reads
 use Rattle.hour.proofs.hour.Kinds as hour-kinds
 use Rattle.hour.proofs.dreg_hour.Reads as dreg-hour-reads
@@ -13,13 +13,13 @@ use Rattle.hour.proofs.refused_hour.Kinds as refused-hour-kinds
 hour-determined : Determined 5 hour-kinds.ps hour-kinds.r hour-reads.Post
 hour-determined κs a x y s t p q = p .0 ∙ sym (q .0)
 
-hour-scores-determined : LeftDetermined 5 hour-kinds.ps hour-kinds.r hourAfter hour-reads.Post
+hour-scores-determined : LeftDetermined 5 hour-kinds.ps hour-kinds.r hourRun hour-reads.Post
 hour-scores-determined κs a x y s t p q = p .1 ∙ sym (q .1)
 
 dreg-hour-determined : Determined 5 dreg-hour-kinds.ps dreg-hour-kinds.r dreg-hour-reads.Post
 dreg-hour-determined κs a x y s t p q = p .0 ∙ sym (q .0)
 
-dreg-hour-scores-determined : LeftDetermined 5 dreg-hour-kinds.ps dreg-hour-kinds.r dRegAfter dreg-hour-reads.Post
+dreg-hour-scores-determined : LeftDetermined 5 dreg-hour-kinds.ps dreg-hour-kinds.r dRegRun dreg-hour-reads.Post
 dreg-hour-scores-determined κs a x y s t p q = p .1 ∙ sym (q .1)
 
 refused-hour-determined : Determined 0 refused-hour-kinds.ps refused-hour-kinds.r refused-hour-reads.Post

@@ -17,16 +17,16 @@ use Rattle.whole.proofs.Choice.{and-both, by-test, all-passed, passed-all, in-o
 use Rattle.whole.proofs.Runs.{length-listed}
 use Rattle.whole.proofs.Signed.{within-fits}
 use Rattle.whole.proofs.Sums.{within-in, inside-all}
-use Rattle.units.specs.Limits.{isCapacity, isPrice, areTransfers, mostTransfer, mostAmount, isAmount, secondsOfHour}
+use Rattle.units.specs.Limits.{isCapacity, areTransfers, mostTransfer, mostAmount, isAmount, secondsOfHour}
 use Rattle.units.specs.declared.Dollars.{Dollars}
 use Rattle.ramp.proofs.Laws.{plan-at, length-plan, plan-inside}
 use Rattle.bands.specs.Bands.{bandsFit, bandsRefusal}
 use Rattle.score.specs.Run.{runRefusal, runScores, runLeft}
 use Rattle.fees.specs.Fees.{qualityAnswer, mostEnergyFee, mostHourAmount}
 use Rattle.fees.proofs.Laws.{energy-within, amount-within}
-use Rattle.hour.specs.Hour.{Service, dReg, eDReg, WholeHour, transfersOf, energyOf, energyPricesFit, targetsFit, lengthsFit, readingsFit, testsOf, termsRefusal, readingsTests, hourRefusal, scoresOf, scoresLeft, grantedHour, settledOf, refusedHour, hourAnswer}
-use Rattle.hour.specs.Accepted.{transferIn}
-use Rattle.hour.specs.Inner.{workedOf}
+use Rattle.hour.specs.Hour.{Service, dReg, eDReg, WholeHour, transfersOf, energyOf, energyPricesFit, targetsFit, lengthsFit, testsOf, readingsTests, hourRefusal, scoresOf, scoresLeft, grantedHour, settledOf, refusedHour, hourAnswer}
+use Rattle.hour.specs.Accepted.{transferIn, HourFits}
+use Rattle.hour.specs.Inner.{workedOf, termsRefusal}
 use Rattle.hour.specs.declared.Settlement.{Settlement}
 
 -- ---- the tests
@@ -48,23 +48,15 @@ pub bands-test : (thresholds factors : List ℤ) → eqb (bandsRefusal threshold
 unfolding bandsRefusal
 bands-test ts fs = by-test (bandsFit ts fs) (λ (t : bandsFit ts fs ≡ true). rw t) (λ (t : bandsFit ts fs ≡ false). rw t)
 
--- an hour that is not refused
-pub record Fit (h : WholeHour) (places : ℕ) : Type 0 where
-  pub lengths : lengthsFit (length (h .powers)) (length (h .frequencies)) places ≡ true
-  pub capacity : isCapacity (h .terms .capacity .0) ≡ true
-  pub prices : (isPrice (h .terms .clearing) && isPrice (h .terms .performance) && energyPricesFit (h .service)) ≡ true
-  pub bands : bandsFit (h .thresholds) (h .factors) ≡ true
-  pub targets : targetsFit (h .service) ≡ true
-  pub readings : readingsFit (h .powers) (h .frequencies) ≡ true
-
-pub fit : (h : WholeHour) (places : ℕ) → hourRefusal h places ≡ 0 → Fit h places
+-- an hour that is not refused fits
+pub fit : (h : WholeHour) (places : ℕ) → hourRefusal h places ≡ 0 → HourFits h places
 unfolding hourRefusal
 fit h places e =
     let p = all-passed (testsOf h places ++ readingsTests h) refl e in
     record { lengths = p .0; capacity = p .1 .0; prices = p .1 .1 .0; bands = p .1 .1 .1 .0; targets = p .1 .1 .1 .1 .0; readings = p .1 .1 .1 .1 .1 .0 }
 
 -- and an hour that fits is not refused
-pub fit-none : (h : WholeHour) (places : ℕ) → Fit h places → hourRefusal h places ≡ 0
+pub fit-none : (h : WholeHour) (places : ℕ) → HourFits h places → hourRefusal h places ≡ 0
 unfolding hourRefusal
 fit-none h places f =
     passed-all (testsOf h places ++ readingsTests h) (f .lengths, (f .capacity, (f .prices, (f .bands, (f .targets, (f .readings, tt))))))

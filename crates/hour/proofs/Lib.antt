@@ -1,6 +1,5 @@
 -- What belongs to no one function; `pub` is what crates above cite.
 pub mod Laws
-pub mod Calls
 pub mod Accepted
 pub mod Without
 mod Determined

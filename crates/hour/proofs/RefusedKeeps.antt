@@ -7,7 +7,7 @@ use Rattle.whole.specs.Refused.{RefusedKeeps}
 use Rattle.whole.proofs.Refused.{refused-bare, refused-left}
 use Rattle.hour.specs.Hour.{WholeHour, energyOf, hourRefusal, scoresOf, grantedHour, settledOf, refusedHour, hourAnswer, scoresLeft}
 use Rattle.hour.specs.declared.Settlement.{Settlement}
-use Rattle.hour.proofs.Calls.{hourRun, hourAfter, dRegRun, dRegAfter}
+use Rattle.hour.specs.Calls.{hourRun, dRegRun}
 use Rattle.hour.proofs.hour.Reads as hour-reads
 use Rattle.hour.proofs.hour.Kinds as hour-kinds
 use Rattle.hour.proofs.dreg_hour.Reads as dreg-hour-reads
@@ -25,8 +25,8 @@ keeps h run scores r answer left f =
     let settled = settledOf (h .terms) (h .thresholds) (h .factors) (energyOf (h .powers) (h .service)) new in
     (refused-bare number refusedHour k settled refl refl answer f, refused-left number refusedHour k settled refl refl answer new run left f)
 
-hour-refused-keeps : RefusedKeeps 5 hour-kinds.ps hour-kinds.r (λ κs r. number r) (λ κs a k. refusedHour k) hourRun hourAfter hour-reads.Post
+hour-refused-keeps : RefusedKeeps 5 hour-kinds.ps hour-kinds.r (λ κs r. number r) (λ κs a k. refusedHour k) hourRun hourRun hour-reads.Post
 hour-refused-keeps κs a r s p f = keeps _ _ _ r (p .0) (p .1) f
 
-dreg-hour-refused-keeps : RefusedKeeps 5 dreg-hour-kinds.ps dreg-hour-kinds.r (λ κs r. number r) (λ κs a k. refusedHour k) dRegRun dRegAfter dreg-hour-reads.Post
+dreg-hour-refused-keeps : RefusedKeeps 5 dreg-hour-kinds.ps dreg-hour-kinds.r (λ κs r. number r) (λ κs a k. refusedHour k) dRegRun dRegRun dreg-hour-reads.Post
 dreg-hour-refused-keeps κs a r s p f = keeps _ _ _ r (p .0) (p .1) f

@@ -1,18 +1,19 @@
 -- AN ACCEPTED HOUR, as document 01's sentences say it, from the readings to the amount, with no refusal in it: what proofs/Accepted.antt shows of
--- every hour that is not refused.
+-- every hour that is not refused; and what fits, which it shows to be accepted.
 use Prim.Native.Nat.{ℕ, _<_}
 use mathlib.Core.Path.{_≡_}
+use mathlib.Core.Bool.{true, _&&_}
 use mathlib.Core.List.{List, []}
 use lib.IntN.{ℤ, pos, _+ℤ_}
 use lib.ListN.{length, getD}
-use Rattle.units.specs.Limits.{secondsOfHour}
+use Rattle.units.specs.Limits.{isCapacity, isPrice, secondsOfHour}
 use Rattle.curve.specs.Curve.{upperAt, lowerAt}
 use Rattle.ramp.specs.Ramp.{transferAt}
 use Rattle.score.specs.Score.{percentOutput, scoreOf}
 use Rattle.rate.specs.Rolling.{rolling, smallest}
-use Rattle.bands.specs.Bands.{firstPlace}
+use Rattle.bands.specs.Bands.{bandsFit, firstPlace}
 use Rattle.fees.specs.Fees.{fee, qualityPart, energyFee}
-use Rattle.hour.specs.Hour.{Service, dReg, eDReg, WholeHour, quarters}
+use Rattle.hour.specs.Hour.{Service, dReg, eDReg, WholeHour, quarters, energyPricesFit, targetsFit, lengthsFit, readingsFit}
 use Rattle.hour.specs.declared.Settlement.{Settlement}
 
 -- the transfer of second i + 1: none for dReg, what its quarter's ramp plans for E-dReg
@@ -44,3 +45,12 @@ pub record Accepted (h : WholeHour) (scores : List ℕ) (r : Settlement) : Type 
   pub energy : r .energy .0 ≡ energyIn (h .powers) (h .service)
   -- and the amount
   pub amount : r .amount .0 ≡ r .quality .0 +ℤ r .energy .0
+
+-- what fits: every test of `hourRefusal`, as a fact
+pub record HourFits (h : WholeHour) (places : ℕ) : Type 0 where
+  pub lengths : lengthsFit (length (h .powers)) (length (h .frequencies)) places ≡ true
+  pub capacity : isCapacity (h .terms .capacity .0) ≡ true
+  pub prices : (isPrice (h .terms .clearing) && isPrice (h .terms .performance) && energyPricesFit (h .service)) ≡ true
+  pub bands : bandsFit (h .thresholds) (h .factors) ≡ true
+  pub targets : targetsFit (h .service) ≡ true
+  pub readings : readingsFit (h .powers) (h .frequencies) ≡ true

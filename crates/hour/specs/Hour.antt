@@ -91,10 +91,6 @@ abbrev pub testsOf : WholeHour → ℕ → List (Bool × ℕ)
 testsOf h places =
     termsTests (length (h .powers)) (length (h .frequencies)) places (h .terms) (h .thresholds) (h .factors) (energyPricesFit (h .service)) (targetsFit (h .service))
 
-unfoldable pub termsRefusal : ℕ → ℕ → ℕ → Terms → List ℤ → List ℤ → Bool → Bool → ℕ
-termsRefusal powers frequencies places terms thresholds factors priced planned =
-    inOrder (termsTests powers frequencies places terms thresholds factors priced planned)
-
 -- and then the readings': 4
 abbrev pub readingsTests : WholeHour → List (Bool × ℕ)
 readingsTests h = (readingsFit (h .powers) (h .frequencies), badReading) ∷ []

@@ -1,4 +1,5 @@
 -- The hour.
 pub mod Hour
 pub mod Accepted
+pub mod Calls
 pub mod Inner

@@ -13,8 +13,8 @@ ghost use Rattle.bands.specs.Bands.{factorAnswer};
 ghost use Rattle.ramp.specs.Ramp.{planOf};
 ghost use Rattle.score.specs.Run.{runLeft};
 ghost use Rattle.rate.specs.Rolling.{hourlyRate};
-ghost use Rattle.hour.specs.Hour.{eDReg, dRegHour, eDRegHour, energyOf, energyPricesFit, targetsFit, lengthsFit, termsRefusal, scoresLeft, grantedHour, refusedHour, settledOf, hourAnswer};
-ghost use Rattle.hour.specs.Inner.{workedOf};
+ghost use Rattle.hour.specs.Hour.{eDReg, dRegHour, eDRegHour, energyOf, energyPricesFit, targetsFit, lengthsFit, scoresLeft, grantedHour, refusedHour, settledOf, hourAnswer};
+ghost use Rattle.hour.specs.Inner.{workedOf, termsRefusal};
 use units::Dollars;
 use units::Kilowatts;
 use units::limits;
@@ -29,7 +29,8 @@ pub struct Terms {
     pub performance: i64,
 }
 
-// What an E-dReg hour has besides: the prices of its energy, and the target before the hour and those of its four quarters, in kW.
+// What an E-dReg hour has besides: the prices of its energy, and the target before the hour and those of its four
+// quarters, in kW.
 pub struct Shift {
     pub discharge: i64,
     pub charge: i64,
@@ -48,244 +49,8 @@ pub struct Settlement {
     pub amount: Dollars,
 }
 
-fn lengths_fit(powers: usize, frequencies: usize, places: usize) -> bool
-    ensures { λ r. ⌜ r ≡ lengthsFit powers frequencies places ⌝ }
-{
-    (powers == limits::SECONDS) & (frequencies == limits::SECONDS) & (places == limits::SECONDS)
-}
-
-fn capacity_fits(terms: Terms) -> bool
-    ensures { λ r. ⌜ r ≡ isCapacity (terms .capacity .0) ⌝ }
-{
-    let capacity = terms.capacity;
-    let size = capacity.0;
-    whole::within(size, 1, limits::CAPACITY)
-}
-
-fn prices_fit(first: i64, second: i64) -> bool
-    ensures { λ r. ⌜ r ≡ (isPrice first && isPrice second) ⌝ }
-{
-    whole::within(first, 0, limits::PRICE) & whole::within(second, 0, limits::PRICE)
-}
-
-// 1, 2, 3, 5, 10; the readings are tested where they are scored. `priced` and `planned` are the tests of what is shifted.
-fn refusal(
-    powers: usize,
-    frequencies: usize,
-    places: usize,
-    terms: Terms,
-    thresholds: &[i64],
-    factors: &[i64],
-    priced: bool,
-    planned: bool,
-) -> u8
-    ensures { λ r. ⌜ r ≡ termsRefusal powers frequencies places terms (now (thresholds .entry)) (now (factors .entry)) priced planned ⌝ }
-{
-    let targets = whole::unless(planned, refusals::BAD_TRANSFER, 0);
-    let banded = bands::check(thresholds, factors) == 0;
-    let bands = whole::unless(banded, refusals::BAD_BANDS, targets);
-    let money = prices_fit(terms.clearing, terms.performance) & priced;
-    let prices = whole::unless(money, refusals::BAD_MONEY, bands);
-    let capacity = whole::unless(capacity_fits(terms), refusals::BAD_CAPACITY, prices);
-    let lengths = lengths_fit(powers, frequencies, places);
-    whole::unless(lengths, refusals::WRONG_LENGTH, capacity)
-}
-
-// `refusal`, with what is shifted.
-fn shift_refusal(
-    powers: usize,
-    frequencies: usize,
-    places: usize,
-    terms: Terms,
-    shift: Shift,
-    thresholds: &[i64],
-    factors: &[i64],
-) -> u8
-    ensures { λ r. ⌜ r ≡ termsRefusal powers frequencies places terms (now (thresholds .entry)) (now (factors .entry)) (energyPricesFit (eDReg shift)) (targetsFit (eDReg shift)) ⌝ }
-{
-    let priced = prices_fit(shift.discharge, shift.charge);
-    let planned = whole::all_within(&shift.targets, LEAST_TRANSFER, limits::TRANSFER);
-    refusal(
-        powers,
-        frequencies,
-        places,
-        terms,
-        thresholds,
-        factors,
-        priced,
-        planned,
-    )
-}
-
-fn rate_of(scores: &[u8]) -> u8
-    ensures { λ r. ⌜ r ≡ hourlyRate (now (scores .entry)) .rate ⌝ }
-{
-    let rated = rate::hourly_rate(scores);
-    rated.rate
-}
-
-fn factor_of(thresholds: &[i64], factors: &[i64], rate: u8) -> i64
-    ensures { λ r. ⌜ r ≡ factorAnswer (now (thresholds .entry)) (now (factors .entry)) rate .factor ⌝ }
-{
-    let factored = bands::factor(thresholds, factors, rate);
-    let factor = factored.factor;
-    factor
-}
-
-fn fee_of(price: i64, capacity: Kilowatts) -> Dollars
-    ensures { λ r. ⌜ r ≡ feeAnswer price capacity .dollars ⌝ }
-{
-    let charged = fees::fee(price, capacity);
-    charged.dollars
-}
-
-fn quality_of(capacity: Dollars, performance: Dollars, factor: i64) -> Dollars
-    ensures { λ r. ⌜ r ≡ qualityAnswer capacity performance factor .dollars ⌝ }
-{
-    let charged = fees::quality_part(capacity, performance, factor);
-    charged.dollars
-}
-
-// The quarters' targets are the last four of the five.
-fn energy_of(powers: &[i64], targets: &[i64], discharge: i64, charge: i64) -> Dollars
-    requires { ⌜ length (now targets) ≡ 5 ⌝ }
-    ensures { λ r. ⌜ r ≡ energyAnswer (now (powers .entry)) (take 4 (drop 1 (now (targets .entry)))) discharge charge .dollars ⌝ }
-{
-    let charged = fees::energy_fee(powers, &targets[1..5], discharge, charge);
-    charged.dollars
-}
-
-fn plus(quality: Dollars, energy: Dollars) -> Dollars
-    requires { ⌜ SFits w64 (quality .0 +ℤ energy .0) ⌝ }
-    ensures { λ r. ⌜ r ≡ dollars (quality .0 +ℤ energy .0) ⌝ }
-{
-    let part = quality.0;
-    let service = energy.0;
-    Dollars(part + service)
-}
-
-// The answer of an hour that is not refused.
-fn granted_hour(
-    rate: u8,
-    factor: i64,
-    capacity: Dollars,
-    performance: Dollars,
-    quality: Dollars,
-    energy: Dollars,
-    amount: Dollars,
-) -> Settlement
-    ensures { λ r. ⌜ r ≡ grantedHour rate factor capacity performance quality energy amount ⌝ }
-{
-    Settlement {
-        refusal: 0,
-        rate: rate,
-        factor: factor,
-        capacity: capacity,
-        performance: performance,
-        quality: quality,
-        energy: energy,
-        amount: amount,
-    }
-}
-
-// A refused hour, for the joint call too: its number, and zeros.
-pub fn refused_hour(number: u8) -> Settlement
-    ensures { λ r. ⌜ r ≡ refusedHour number ⌝ }
-{
-    let nothing = Dollars(0);
-    Settlement {
-        refusal: number,
-        rate: 0,
-        factor: 0,
-        capacity: nothing,
-        performance: nothing,
-        quality: nothing,
-        energy: nothing,
-        amount: nothing,
-    }
-}
-
-// The rate, the factor and the fees of an hour by its scores.
-fn settled(
-    terms: Terms,
-    thresholds: &[i64],
-    factors: &[i64],
-    energy: Dollars,
-    scores: &[u8],
-) -> Settlement
-    requires { ⌜ Within mostEnergyFee (energy .0) ⌝ }
-    ensures { λ r. ⌜ r ≡ settledOf terms (now (thresholds .entry)) (now (factors .entry)) energy (now (scores .entry)) ⌝ }
-{
-    let rate = rate_of(scores);
-    let factor = factor_of(thresholds, factors, rate);
-    let capacity = fee_of(terms.clearing, terms.capacity);
-    let performance = fee_of(terms.performance, terms.capacity);
-    let quality = quality_of(capacity, performance, factor);
-    granted_hour(
-        rate,
-        factor,
-        capacity,
-        performance,
-        quality,
-        energy,
-        plus(quality, energy),
-    )
-}
-
-// THE CORE of both hours: the scores by the transfers, and the settlement by the scores; or the readings' refusal, and the run as it was.
-fn worked(
-    powers: &[i64],
-    frequencies: &[i64],
-    transfers: &[i64],
-    terms: Terms,
-    thresholds: &[i64],
-    factors: &[i64],
-    energy: Dollars,
-    scores: &mut [u8],
-) -> Settlement
-    requires { ⌜ Within mostEnergyFee (energy .0) ⌝ }
-    ensures answers { λ r. ⌜ r ≡ workedOf (now (powers .entry)) (now (frequencies .entry)) (now (transfers .entry)) terms (now (thresholds .entry)) (now (factors .entry)) energy (length (now (scores .entry))) ⌝ }
-    ensures leaves { λ r. ⌜ now (scores .exit) ≡ runLeft (now (powers .entry)) (now (frequencies .entry)) (now (transfers .entry)) (terms .capacity) (now (scores .entry)) ⌝ }
-{
-    let number = score::run_scores(powers, frequencies, transfers, terms.capacity, scores);
-    if number != 0 {
-        return refused_hour(number);
-    }
-    settled(terms, thresholds, factors, energy, scores)
-}
-
-// `worked`, by the ramps of targets in their range.
-fn shifted(
-    powers: &[i64],
-    frequencies: &[i64],
-    terms: Terms,
-    shift: Shift,
-    thresholds: &[i64],
-    factors: &[i64],
-    scores: &mut [u8],
-) -> Settlement
-    requires { ⌜ targetsFit (eDReg shift) ≡ true ⌝ }
-    ensures answers { λ r. ⌜ r ≡ workedOf (now (powers .entry)) (now (frequencies .entry)) (planOf (shift .targets)) terms (now (thresholds .entry)) (now (factors .entry)) (energyOf (now (powers .entry)) (eDReg shift)) (length (now (scores .entry))) ⌝ }
-    ensures leaves { λ r. ⌜ now (scores .exit) ≡ runLeft (now (powers .entry)) (now (frequencies .entry)) (planOf (shift .targets)) (terms .capacity) (now (scores .entry)) ⌝ }
-{
-    let mut transfers = [0i64; limits::SECONDS];
-    ramp::plan(&shift.targets, &mut transfers);
-    let discharge = shift.discharge;
-    let charge = shift.charge;
-    let energy = energy_of(powers, &shift.targets, discharge, charge);
-    worked(
-        powers,
-        frequencies,
-        &transfers,
-        terms,
-        thresholds,
-        factors,
-        energy,
-        scores,
-    )
-}
-
-// A dReg hour: its settlement, and its scores in the lent run; or its refusal, and the run as it was. It transfers nothing and is paid no energy.
+// A dReg hour: its settlement, and its scores in the lent run; or its refusal, and the run as it was. It transfers
+// nothing and is paid no energy.
 pub fn dreg_hour(
     powers: &[i64],
     frequencies: &[i64],
@@ -358,4 +123,243 @@ pub fn hour(
         factors,
         scores,
     )
+}
+
+// A refused hour, for the joint call too: its number, and zeros.
+pub fn refused_hour(number: u8) -> Settlement
+    ensures { λ r. ⌜ r ≡ refusedHour number ⌝ }
+{
+    let nothing = Dollars(0);
+    Settlement {
+        refusal: number,
+        rate: 0,
+        factor: 0,
+        capacity: nothing,
+        performance: nothing,
+        quality: nothing,
+        energy: nothing,
+        amount: nothing,
+    }
+}
+
+// 1, 2, 3, 5, 10; the readings are tested where they are scored. `priced` and `planned` are the tests of what is
+// shifted.
+fn refusal(
+    powers: usize,
+    frequencies: usize,
+    places: usize,
+    terms: Terms,
+    thresholds: &[i64],
+    factors: &[i64],
+    priced: bool,
+    planned: bool,
+) -> u8
+    ensures { λ r. ⌜ r ≡ termsRefusal powers frequencies places terms (now (thresholds .entry)) (now (factors .entry)) priced planned ⌝ }
+{
+    let targets = whole::unless(planned, refusals::BAD_TRANSFER, 0);
+    let banded = bands::check(thresholds, factors) == 0;
+    let bands = whole::unless(banded, refusals::BAD_BANDS, targets);
+    let money = prices_fit(terms.clearing, terms.performance) & priced;
+    let prices = whole::unless(money, refusals::BAD_MONEY, bands);
+    let capacity = whole::unless(capacity_fits(terms), refusals::BAD_CAPACITY, prices);
+    let lengths = lengths_fit(powers, frequencies, places);
+    whole::unless(lengths, refusals::WRONG_LENGTH, capacity)
+}
+
+fn prices_fit(first: i64, second: i64) -> bool
+    ensures { λ r. ⌜ r ≡ (isPrice first && isPrice second) ⌝ }
+{
+    whole::within(first, 0, limits::PRICE) & whole::within(second, 0, limits::PRICE)
+}
+
+fn capacity_fits(terms: Terms) -> bool
+    ensures { λ r. ⌜ r ≡ isCapacity (terms .capacity .0) ⌝ }
+{
+    let capacity = terms.capacity;
+    let size = capacity.0;
+    whole::within(size, 1, limits::CAPACITY)
+}
+
+fn lengths_fit(powers: usize, frequencies: usize, places: usize) -> bool
+    ensures { λ r. ⌜ r ≡ lengthsFit powers frequencies places ⌝ }
+{
+    (powers == limits::SECONDS) & (frequencies == limits::SECONDS) & (places == limits::SECONDS)
+}
+
+// THE CORE of both hours: the scores by the transfers, and the settlement by the scores; or the readings' refusal, and
+// the run as it was.
+fn worked(
+    powers: &[i64],
+    frequencies: &[i64],
+    transfers: &[i64],
+    terms: Terms,
+    thresholds: &[i64],
+    factors: &[i64],
+    energy: Dollars,
+    scores: &mut [u8],
+) -> Settlement
+    requires { ⌜ Within mostEnergyFee (energy .0) ⌝ }
+    ensures answers { λ r. ⌜ r ≡ workedOf (now (powers .entry)) (now (frequencies .entry)) (now (transfers .entry)) terms (now (thresholds .entry)) (now (factors .entry)) energy (length (now (scores .entry))) ⌝ }
+    ensures leaves { λ r. ⌜ now (scores .exit) ≡ runLeft (now (powers .entry)) (now (frequencies .entry)) (now (transfers .entry)) (terms .capacity) (now (scores .entry)) ⌝ }
+{
+    let number = score::run_scores(powers, frequencies, transfers, terms.capacity, scores);
+    if number != 0 {
+        return refused_hour(number);
+    }
+    settled(terms, thresholds, factors, energy, scores)
+}
+
+// The rate, the factor and the fees of an hour by its scores.
+fn settled(
+    terms: Terms,
+    thresholds: &[i64],
+    factors: &[i64],
+    energy: Dollars,
+    scores: &[u8],
+) -> Settlement
+    requires { ⌜ Within mostEnergyFee (energy .0) ⌝ }
+    ensures { λ r. ⌜ r ≡ settledOf terms (now (thresholds .entry)) (now (factors .entry)) energy (now (scores .entry)) ⌝ }
+{
+    let rate = rate_of(scores);
+    let factor = factor_of(thresholds, factors, rate);
+    let capacity = fee_of(terms.clearing, terms.capacity);
+    let performance = fee_of(terms.performance, terms.capacity);
+    let quality = quality_of(capacity, performance, factor);
+    granted_hour(
+        rate,
+        factor,
+        capacity,
+        performance,
+        quality,
+        energy,
+        plus(quality, energy),
+    )
+}
+
+fn rate_of(scores: &[u8]) -> u8
+    ensures { λ r. ⌜ r ≡ hourlyRate (now (scores .entry)) .rate ⌝ }
+{
+    let rated = rate::hourly_rate(scores);
+    rated.rate
+}
+
+fn factor_of(thresholds: &[i64], factors: &[i64], rate: u8) -> i64
+    ensures { λ r. ⌜ r ≡ factorAnswer (now (thresholds .entry)) (now (factors .entry)) rate .factor ⌝ }
+{
+    let factored = bands::factor(thresholds, factors, rate);
+    let factor = factored.factor;
+    factor
+}
+
+fn fee_of(price: i64, capacity: Kilowatts) -> Dollars
+    ensures { λ r. ⌜ r ≡ feeAnswer price capacity .dollars ⌝ }
+{
+    let charged = fees::fee(price, capacity);
+    charged.dollars
+}
+
+fn quality_of(capacity: Dollars, performance: Dollars, factor: i64) -> Dollars
+    ensures { λ r. ⌜ r ≡ qualityAnswer capacity performance factor .dollars ⌝ }
+{
+    let charged = fees::quality_part(capacity, performance, factor);
+    charged.dollars
+}
+
+// The answer of an hour that is not refused.
+fn granted_hour(
+    rate: u8,
+    factor: i64,
+    capacity: Dollars,
+    performance: Dollars,
+    quality: Dollars,
+    energy: Dollars,
+    amount: Dollars,
+) -> Settlement
+    ensures { λ r. ⌜ r ≡ grantedHour rate factor capacity performance quality energy amount ⌝ }
+{
+    Settlement {
+        refusal: 0,
+        rate: rate,
+        factor: factor,
+        capacity: capacity,
+        performance: performance,
+        quality: quality,
+        energy: energy,
+        amount: amount,
+    }
+}
+
+fn plus(quality: Dollars, energy: Dollars) -> Dollars
+    requires { ⌜ SFits w64 (quality .0 +ℤ energy .0) ⌝ }
+    ensures { λ r. ⌜ r ≡ dollars (quality .0 +ℤ energy .0) ⌝ }
+{
+    let part = quality.0;
+    let service = energy.0;
+    Dollars(part + service)
+}
+
+// `refusal`, with what is shifted.
+fn shift_refusal(
+    powers: usize,
+    frequencies: usize,
+    places: usize,
+    terms: Terms,
+    shift: Shift,
+    thresholds: &[i64],
+    factors: &[i64],
+) -> u8
+    ensures { λ r. ⌜ r ≡ termsRefusal powers frequencies places terms (now (thresholds .entry)) (now (factors .entry)) (energyPricesFit (eDReg shift)) (targetsFit (eDReg shift)) ⌝ }
+{
+    let priced = prices_fit(shift.discharge, shift.charge);
+    let planned = whole::all_within(&shift.targets, LEAST_TRANSFER, limits::TRANSFER);
+    refusal(
+        powers,
+        frequencies,
+        places,
+        terms,
+        thresholds,
+        factors,
+        priced,
+        planned,
+    )
+}
+
+// `worked`, by the ramps of targets in their range.
+fn shifted(
+    powers: &[i64],
+    frequencies: &[i64],
+    terms: Terms,
+    shift: Shift,
+    thresholds: &[i64],
+    factors: &[i64],
+    scores: &mut [u8],
+) -> Settlement
+    requires { ⌜ targetsFit (eDReg shift) ≡ true ⌝ }
+    ensures answers { λ r. ⌜ r ≡ workedOf (now (powers .entry)) (now (frequencies .entry)) (planOf (shift .targets)) terms (now (thresholds .entry)) (now (factors .entry)) (energyOf (now (powers .entry)) (eDReg shift)) (length (now (scores .entry))) ⌝ }
+    ensures leaves { λ r. ⌜ now (scores .exit) ≡ runLeft (now (powers .entry)) (now (frequencies .entry)) (planOf (shift .targets)) (terms .capacity) (now (scores .entry)) ⌝ }
+{
+    let mut transfers = [0i64; limits::SECONDS];
+    ramp::plan(&shift.targets, &mut transfers);
+    let discharge = shift.discharge;
+    let charge = shift.charge;
+    let energy = energy_of(powers, &shift.targets, discharge, charge);
+    worked(
+        powers,
+        frequencies,
+        &transfers,
+        terms,
+        thresholds,
+        factors,
+        energy,
+        scores,
+    )
+}
+
+// The quarters' targets are the last four of the five.
+fn energy_of(powers: &[i64], targets: &[i64], discharge: i64, charge: i64) -> Dollars
+    requires { ⌜ length (now targets) ≡ 5 ⌝ }
+    ensures { λ r. ⌜ r ≡ energyAnswer (now (powers .entry)) (take 4 (drop 1 (now (targets .entry)))) discharge charge .dollars ⌝ }
+{
+    let charged = fees::energy_fee(powers, &targets[1..5], discharge, charge);
+    charged.dollars
 }

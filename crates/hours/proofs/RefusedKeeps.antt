@@ -1,13 +1,19 @@
 -- A refused hour has its number and zeros, and leaves the lent run of scores as it was. Assumes nothing.
+use Prim.Native.Nat.{ℕ}
 use mathlib.Core.Path.{sym, ap, _∙_}
+use mathlib.Core.List.{List}
 use lib.IntN.{pos}
 use lib.ListN.{replicate}
+use contract.Lifetimes.{Lfts}
 use denote.Ref.{now}
+use denote.Triple.Clauses.{AtExit}
+use borrow.Fn.Kinds.{Dens, endedOf}
 use Rattle.whole.specs.Refused.{RefusedKeeps, RefusedBare}
 use Rattle.whole.proofs.Choice.{kept-old}
 use Rattle.hour.specs.Hour.{refusedHour}
 use Rattle.hour.specs.declared.Settlement.{Settlement}
-use Rattle.words.specs.Replies.{reply, boxed}
+use Rattle.words.specs.Replies.{reply}
+use Rattle.words.specs.Inner.{boxed}
 use Rattle.words.specs.declared.Few.{Few}
 use Rattle.hours.specs.Hours.{scoresAfter, fieldsOf, hourReply}
 use Rattle.hours.proofs.HourLaws.{refused-is}
@@ -16,8 +22,14 @@ use Rattle.hours.proofs.settle.Kinds as settle-kinds
 use Rattle.hours.proofs.answer.Reads as answer
 use Rattle.hours.proofs.answer.Kinds as answer-kinds
 
-settle-refused-keeps : RefusedKeeps 3 settle-kinds.ps settle-kinds.r (λ κs x. x .refusal) (λ κs a k. refusedHour k)
-    (λ κs a. now (a .1 .1 .1 .1 .0)) (λ κs s. now (s .1 .1 .1 .1 .0)) settle.Post
+-- `settle`'s run of scores, as it was lent and as it is left
+abbrev lent : (κs : Lfts 3) → Dens κs settle-kinds.ps → List ℕ
+lent κs a = now (a .1 .1 .1 .1 .0)
+
+abbrev left : (κs : Lfts 3) → AtExit (endedOf 3 settle-kinds.ps settle-kinds.r) κs → List ℕ
+left κs s = now (s .1 .1 .1 .1 .0)
+
+settle-refused-keeps : RefusedKeeps 3 settle-kinds.ps settle-kinds.r (λ κs x. x .refusal) (λ κs a k. refusedHour k) lent left settle.Post
 unfolding scoresAfter
 settle-refused-keeps κs a x s p f =
     let k = ap (λ (y : Settlement). y .refusal) (p .0) in

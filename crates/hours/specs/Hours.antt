@@ -1,5 +1,5 @@
 -- The questions about a whole hour: its terms, its bands as pairs and its readings as pairs (docs/DESK.md, "Questions").
-use Prim.Native.Nat.{ℕ, _*_, _%_}
+use Prim.Native.Nat.{ℕ, _*_, _/_, _%_}
 use mathlib.Core.Bool.{Bool, _&&_}
 use mathlib.Core.List.{List, [], _∷_, map}
 use lib.Dec.{eqb}
@@ -15,7 +15,6 @@ use Rattle.hour.specs.declared.Shift.{Shift}
 use Rattle.hour.specs.declared.Settlement.{Settlement}
 use Rattle.numbers.specs.Numbers.{number, column}
 use Rattle.words.specs.Replies.{Reply, reply}
-use Rattle.hours.specs.Inner.{pairsIn}
 use Rattle.words.specs.declared.Hour as words
 use Rattle.words.specs.declared.Hour.the-variants.{Dreg, Edreg}
 
@@ -56,7 +55,7 @@ hourBy terms service bands readings =
       fits = countsFit (length bands) (length readings);
       hour =
           hourFrom (column readings 0 secondsOfHour) (column readings 1 secondsOfHour) terms service
-          (column bands 0 (pairsIn (length bands))) (column bands 1 (pairsIn (length bands)));
+          (column bands 0 (length bands / 2)) (column bands 1 (length bands / 2));
     }
 
 -- the hour that a question asks about

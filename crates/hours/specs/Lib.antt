@@ -1,3 +1,3 @@
 -- The questions about a whole hour.
-pub mod Inner
 pub mod Hours
+pub mod Inner

@@ -5,7 +5,7 @@ ghost use mathlib.Core.Path.{_≡_};
 ghost use lib.ListN.{length};
 ghost use Rattle.hour.specs.Hour.{hourAnswer, scoresLeft};
 ghost use Rattle.numbers.specs.Numbers.{column};
-ghost use Rattle.words.specs.Replies.{boxed};
+ghost use Rattle.words.specs.Inner.{boxed};
 ghost use Rattle.hours.specs.Hours.{termsOf, shiftOf, serviceOf, hourFrom, countsFit, hourBy, hourAsked, settlement, scoresAfter, hourReply};
 ghost use Rattle.hours.specs.Inner.{pairsIn};
 use hour::Settlement;
@@ -73,30 +73,60 @@ pub fn answer(hour: Hour, terms: [i64; 12], bands: &[i64], readings: &[i64]) -> 
     }
 }
 
-fn terms_of(numbers: [i64; 12]) -> Terms
-    ensures { λ r. ⌜ r ≡ termsOf numbers ⌝ }
-{
-    Terms {
-        capacity: Kilowatts(numbers[0]),
-        clearing: numbers[1],
-        performance: numbers[2],
-    }
-}
-
-fn shift_of(numbers: [i64; 12]) -> Shift
-    ensures { λ r. ⌜ r ≡ shiftOf numbers ⌝ }
-{
-    Shift {
-        discharge: numbers[3],
-        charge: numbers[4],
-        targets: [numbers[5], numbers[6], numbers[7], numbers[8], numbers[9]],
-    }
-}
-
 fn counts_fit(bands: usize, readings: usize) -> bool
     ensures { λ r. ⌜ r ≡ countsFit bands readings ⌝ }
 {
     (bands % 2 == 0) & (readings == 2 * limits::SECONDS)
+}
+
+// The same by its readings as pairs.
+fn settle_by(
+    hour: Hour,
+    terms: Terms,
+    shift: Shift,
+    bands: &[i64],
+    readings: &[i64],
+    scores: &mut [u8; limits::SECONDS],
+) -> Settlement
+    requires { ⌜ countsFit (length (now bands)) (length (now readings)) ≡ true ⌝ }
+    ensures answers { λ r. ⌜ r ≡ settlement (hourBy terms (serviceOf hour shift) (now (bands .entry)) (now (readings .entry))) ⌝ }
+    ensures leaves { λ r. ⌜ now (scores .exit) ≡ scoresAfter (hourBy terms (serviceOf hour shift) (now (bands .entry)) (now (readings .entry))) (now (scores .entry)) ⌝ }
+{
+    let mut powers = [0i64; limits::SECONDS];
+    let mut frequencies = [0i64; limits::SECONDS];
+    numbers::column(readings, false, &mut powers);
+    numbers::column(readings, true, &mut frequencies);
+    settle_bands(hour, terms, shift, bands, &powers, &frequencies, scores)
+}
+
+// The same by its bands as pairs.
+fn settle_bands(
+    hour: Hour,
+    terms: Terms,
+    shift: Shift,
+    bands: &[i64],
+    powers: &[i64],
+    frequencies: &[i64],
+    scores: &mut [u8],
+) -> Settlement
+    ensures answers { λ r. ⌜ r ≡ hourAnswer (hourFrom (now (powers .entry)) (now (frequencies .entry)) terms (serviceOf hour shift) (column (now (bands .entry)) 0 (pairsIn (length (now (bands .entry))))) (column (now (bands .entry)) 1 (pairsIn (length (now (bands .entry)))))) (length (now (scores .entry))) ⌝ }
+    ensures leaves { λ r. ⌜ now (scores .exit) ≡ scoresLeft (hourFrom (now (powers .entry)) (now (frequencies .entry)) terms (serviceOf hour shift) (column (now (bands .entry)) 0 (pairsIn (length (now (bands .entry))))) (column (now (bands .entry)) 1 (pairsIn (length (now (bands .entry)))))) (now (scores .entry)) ⌝ }
+{
+    let mut thresholds = [0i64; 100];
+    let mut factors = [0i64; 100];
+    numbers::column(bands, false, &mut thresholds);
+    numbers::column(bands, true, &mut factors);
+    let n = pairs_in(bands.len());
+    settle_kind(
+        hour,
+        powers,
+        frequencies,
+        terms,
+        shift,
+        &thresholds[..n],
+        &factors[..n],
+        scores,
+    )
 }
 
 // How many pairs are taken of so many numbers.
@@ -136,52 +166,22 @@ fn settle_kind(
     }
 }
 
-// The same by its bands as pairs.
-fn settle_bands(
-    hour: Hour,
-    terms: Terms,
-    shift: Shift,
-    bands: &[i64],
-    powers: &[i64],
-    frequencies: &[i64],
-    scores: &mut [u8],
-) -> Settlement
-    ensures answers { λ r. ⌜ r ≡ hourAnswer (hourFrom (now (powers .entry)) (now (frequencies .entry)) terms (serviceOf hour shift) (column (now (bands .entry)) 0 (pairsIn (length (now (bands .entry))))) (column (now (bands .entry)) 1 (pairsIn (length (now (bands .entry)))))) (length (now (scores .entry))) ⌝ }
-    ensures leaves { λ r. ⌜ now (scores .exit) ≡ scoresLeft (hourFrom (now (powers .entry)) (now (frequencies .entry)) terms (serviceOf hour shift) (column (now (bands .entry)) 0 (pairsIn (length (now (bands .entry))))) (column (now (bands .entry)) 1 (pairsIn (length (now (bands .entry)))))) (now (scores .entry)) ⌝ }
+fn terms_of(numbers: [i64; 12]) -> Terms
+    ensures { λ r. ⌜ r ≡ termsOf numbers ⌝ }
 {
-    let mut thresholds = [0i64; 100];
-    let mut factors = [0i64; 100];
-    numbers::column(bands, false, &mut thresholds);
-    numbers::column(bands, true, &mut factors);
-    let n = pairs_in(bands.len());
-    settle_kind(
-        hour,
-        powers,
-        frequencies,
-        terms,
-        shift,
-        &thresholds[..n],
-        &factors[..n],
-        scores,
-    )
+    Terms {
+        capacity: Kilowatts(numbers[0]),
+        clearing: numbers[1],
+        performance: numbers[2],
+    }
 }
 
-// The same by its readings as pairs.
-fn settle_by(
-    hour: Hour,
-    terms: Terms,
-    shift: Shift,
-    bands: &[i64],
-    readings: &[i64],
-    scores: &mut [u8; limits::SECONDS],
-) -> Settlement
-    requires { ⌜ countsFit (length (now bands)) (length (now readings)) ≡ true ⌝ }
-    ensures answers { λ r. ⌜ r ≡ settlement (hourBy terms (serviceOf hour shift) (now (bands .entry)) (now (readings .entry))) ⌝ }
-    ensures leaves { λ r. ⌜ now (scores .exit) ≡ scoresAfter (hourBy terms (serviceOf hour shift) (now (bands .entry)) (now (readings .entry))) (now (scores .entry)) ⌝ }
+fn shift_of(numbers: [i64; 12]) -> Shift
+    ensures { λ r. ⌜ r ≡ shiftOf numbers ⌝ }
 {
-    let mut powers = [0i64; limits::SECONDS];
-    let mut frequencies = [0i64; limits::SECONDS];
-    numbers::column(readings, false, &mut powers);
-    numbers::column(readings, true, &mut frequencies);
-    settle_bands(hour, terms, shift, bands, &powers, &frequencies, scores)
+    Shift {
+        discharge: numbers[3],
+        charge: numbers[4],
+        targets: [numbers[5], numbers[6], numbers[7], numbers[8], numbers[9]],
+    }
 }

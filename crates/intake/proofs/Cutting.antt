@@ -13,9 +13,9 @@ use borrow.Author.Tests.{eq-eqb, ne-eqb, lt-ltb, le-ltb, ltb-true, ltb-false}
 use Rattle.whole.specs.Choice.{pick}
 use Rattle.whole.proofs.Choice.{by-test}
 use Rattle.whole.proofs.Runs.{rest, no-rest}
-use Rattle.frame.specs.Frame.{lineRefusal, readRefusal, readingOf}
-use Rattle.intake.specs.Lines.{lineEnd, beforeEnd}
-use Rattle.intake.specs.Inner.{heldIn, emptyLine, pushed, keptIn, linesIn, leftIn}
+use Rattle.frame.specs.Frame.{readRefusal, readingOf}
+use Rattle.intake.specs.Lines.{lineEnd}
+use Rattle.intake.specs.Inner.{beforeEnd, heldIn, emptyLine, pushed, keptIn, linesIn, leftIn}
 use Rattle.intake.specs.declared.Line.{Line}
 
 -- ---- where a line ends
@@ -140,7 +140,7 @@ shows-kept l cur (b ∷ bs) s = rw append-assoc at (shows-kept (pushed l b) (cur
 -- ---- a byte past the 25th decides nothing
 
 pub reading-kept : (l : List ℕ) → readingOf (take 25 l) ≡ readingOf l
-unfolding readingOf readRefusal lineRefusal
+unfolding readingOf readRefusal
 reading-kept l =
     by-test (ltb 25 (length l))
     (λ (t : ltb 25 (length l) ≡ true).

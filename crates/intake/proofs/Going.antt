@@ -11,11 +11,10 @@ use Rattle.whole.proofs.Choice.{clash}
 use lib.ListN.{length, take, drop, length-append, length-drop}
 use lib.Seq.{drop-drop}
 use borrow.Rule.Slice.PartAt.{part-to-end}
-use Rattle.intake.specs.Lines.{beforeEnd}
+use Rattle.intake.specs.Inner.{beforeEnd, heldIn, emptyLine, keptIn, linesIn, leftIn, lastIn}
 use Rattle.text.specs.Text.{put}
 use Rattle.book.specs.Book.{Book}
 use Rattle.intake.specs.Answers.{answerTo, bookAfter, answersTo, bookAfterAll}
-use Rattle.intake.specs.Inner.{heldIn, emptyLine, keptIn, linesIn, leftIn, lastIn}
 use Rattle.intake.specs.declared.Line.{Line}
 use Rattle.text.proofs.Places.{put-put, put-nothing}
 use Rattle.intake.proofs.Cutting.{lines-cut, left-cut, lines-none, left-none, before-take}

@@ -13,7 +13,8 @@ use Rattle.whole.proofs.Choice.{by-test, passed, all-passed, kept-new}
 use Rattle.units.specs.Limits.{isDays}
 use Rattle.units.specs.Refusals.{wrongLength, notInMonth}
 use Rattle.history.specs.Rules.{Call}
-use Rattle.history.specs.Board.{fresh, wellFormed, runsFit, openRuling, ledgerRefusal, handedIn, totalOn, totalIn}
+use Rattle.history.specs.Board.{fresh, wellFormed, totalOn}
+use Rattle.history.specs.Inner.{runsFit, openRuling, ledgerRefusal, handedIn, totalIn}
 use Rattle.history.proofs.Board.{Good, well-opens, good-runs, good-ledger, fresh-good}
 use Rattle.history.proofs.Steps.{left-stays}
 use Rattle.head.specs.Rules.{Fee, Item, monthRules}

@@ -8,9 +8,9 @@ use lib.IntN.{ℤ}
 use lib.ListN.{length, take, set, replicate}
 use Rattle.whole.specs.Choice.{pick, unless, inOrder, kept}
 use Rattle.units.specs.Refusals.{wrongLength}
-use Rattle.history.specs.Board.{runsFit, ledgerRefusal}
+use Rattle.history.specs.Inner.{runsFit, ledgerRefusal}
 use Rattle.head.specs.Rules.{monthRules}
-use Rattle.head.specs.Head.{freshHead}
+use Rattle.head.specs.Inner.{freshHead}
 use Rattle.text.specs.Text.{put}
 use Rattle.book.specs.Book.{Book}
 use Rattle.book.specs.Inner.{bookOf, coverOf}
@@ -49,6 +49,11 @@ leftIn line (b ∷ bs) = pick (eqb b lineEnd) (leftIn emptyLine bs) (leftIn (pus
 -- the line at the input's end, if it has a byte
 unfoldable pub lastIn : Line → List (List ℕ)
 lastIn line = pick (eqb (line .len) 0) [] (heldIn line ∷ [])
+
+-- the bytes before the first line end, or all of them
+abbrev pub beforeEnd : List ℕ → List ℕ
+beforeEnd [] = []
+beforeEnd (b ∷ bs) = pick (eqb b lineEnd) [] (b ∷ beforeEnd bs)
 
 -- ---- the first state
 

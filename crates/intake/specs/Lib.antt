@@ -3,3 +3,4 @@ pub mod Lines
 pub mod Text
 pub mod Answers
 pub mod Inner
+pub mod Calls

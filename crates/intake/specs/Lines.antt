@@ -1,5 +1,5 @@
 -- Document 01, "Frames": "A line end is the byte 0A"; "a last line without one counts if it has a byte".
-use Prim.Native.Nat.{ℕ, suc}
+use Prim.Native.Nat.{ℕ}
 use mathlib.Core.List.{List, [], _∷_, _++_}
 use lib.Dec.{eqb}
 use lib.ListN.{length}
@@ -15,13 +15,3 @@ linesAfter begun (b ∷ bs) = pick (eqb b lineEnd) (begun ∷ linesAfter [] bs) 
 
 abbrev pub linesOf : List ℕ → List (List ℕ)
 linesOf input = linesAfter [] input
-
--- the bytes before the first line end, or all of them
-abbrev pub beforeEnd : List ℕ → List ℕ
-beforeEnd [] = []
-beforeEnd (b ∷ bs) = pick (eqb b lineEnd) [] (b ∷ beforeEnd bs)
-
--- how many lines have ended
-abbrev pub lineEnds : List ℕ → ℕ
-lineEnds [] = 0
-lineEnds (b ∷ bs) = pick (eqb b lineEnd) (suc (lineEnds bs)) (lineEnds bs)

@@ -2,8 +2,7 @@
 ghost use Prim.Native.Nat.{_+_, _≤_, _<_, min};
 ghost use mathlib.Core.Path.{_≡_};
 ghost use lib.ListN.{length, drop};
-ghost use Rattle.intake.specs.Lines.{beforeEnd};
-ghost use Rattle.intake.specs.Inner.{emptyLine, pushed, keptIn};
+ghost use Rattle.intake.specs.Inner.{beforeEnd, emptyLine, pushed, keptIn};
 use crate::Line;
 
 // A line with no byte yet.
@@ -14,20 +13,6 @@ pub(crate) fn empty() -> Line
         bytes: [0; 25],
         len: 0,
     }
-}
-
-// The line with one byte more, or as it is where it has 25.
-fn push(line: Line, b: u8) -> Line
-    ensures { λ r. ⌜ r ≡ pushed line b ⌝ }
-{
-    let at = line.len;
-    if 25 <= at {
-        return line;
-    }
-    let mut next = line;
-    next.bytes[at] = b;
-    next.len = at + 1;
-    next
 }
 
 // The line with more bytes.
@@ -63,4 +48,18 @@ pub(crate) fn held(len: usize) -> usize
     ensures { λ r. ⌜ r ≡ min len 25 ⌝ }
 {
     if len < 25 { len } else { 25 }
+}
+
+// The line with one byte more, or as it is where it has 25.
+fn push(line: Line, b: u8) -> Line
+    ensures { λ r. ⌜ r ≡ pushed line b ⌝ }
+{
+    let at = line.len;
+    if 25 <= at {
+        return line;
+    }
+    let mut next = line;
+    next.bytes[at] = b;
+    next.len = at + 1;
+    next
 }

@@ -1,14 +1,15 @@
 -- A refused joint call is its number alone beside the ledger that was handed in: the answer goes by one number. Assumes nothing.
 use mathlib.Core.Path.{sym, ap, _∙_}
 use Rattle.whole.specs.Refused.{RefusedBare}
-use Rattle.joint.specs.Joint.{refusedBeside}
+use Rattle.joint.specs.Joint.{refusedBeside, workedBy}
 use Rattle.joint.specs.declared.Joined.{Joined}
-use Rattle.joint.proofs.SameNumbers.{monthGiven, workedBy, joint-posts, posted-bare}
+use Rattle.joint.specs.Calls.{jointHanded, monthGiven}
+use Rattle.joint.proofs.SameNumbers.{joint-posts, posted-bare}
 use Rattle.joint.proofs.joint.Reads as joint-reads
 use Rattle.joint.proofs.joint.Kinds as joint-kinds
 
-joint-refused-keeps : RefusedBare 4 joint-kinds.ps joint-kinds.r (λ κs j. j .hour .refusal) (λ κs b k. refusedBeside (monthGiven κs b) k) joint-reads.Post
+joint-refused-keeps : RefusedBare 4 joint-kinds.ps joint-kinds.r (λ κs j. j .hour .refusal) (λ κs b k. refusedBeside (monthGiven b) k) joint-reads.Post
 joint-refused-keeps κs b j e p f =
     let posts = joint-posts κs b j e p in
     let told = ap (λ (x : Joined). x .hour .refusal) posts in
-    posts ∙ posted-bare (workedBy κs b) (monthGiven κs b) _ _ (λ z. f (told ∙ z)) ∙ ap (refusedBeside (monthGiven κs b)) (sym told)
+    posts ∙ posted-bare (workedBy (jointHanded b)) (monthGiven b) _ _ (λ z. f (told ∙ z)) ∙ ap (refusedBeside (monthGiven b)) (sym told)

@@ -1,9 +1,13 @@
 -- The joint call (document 01, "The ledger": "one joint call that works an hour out and posts it"): the hour's refusal, 16, the ledger's.
 use Prim.Native.Nat.{ℕ}
-use Rattle.whole.specs.Choice.{unless, orElse, kept}
+use mathlib.Core.Path.{_≡_}
+use mathlib.Core.Bool.{Bool}
+use mathlib.Core.List.{List, [], _∷_, _++_}
+use lib.ListN.{length}
+use Rattle.whole.specs.Choice.{inOrder, kept}
 use Rattle.units.specs.Refusals.{badAmount}
 use Rattle.units.specs.Limits.{isAmount, secondsOfHour}
-use Rattle.history.specs.Rules.{Call}
+use Rattle.history.specs.Rules.{Call, own}
 use Rattle.head.specs.Rules.{amountItem}
 use Rattle.month.specs.Month.{monthAnswer}
 use Rattle.month.specs.declared.Month.{Month}
@@ -18,13 +22,29 @@ refusedBeside month k = record { hour = refusedHour k; month = month }
 unfoldable pub joined : ℕ → Settlement → Month → Month → Joined
 joined k hour next month = kept k (record { hour = hour; month = next }) (refusedBeside month k)
 
+-- what keeps an hour from the ledger: its own number, 16
+abbrev pub postTests : Settlement → List (Bool × ℕ)
+postTests worked = own (worked .refusal) ∷ (isAmount (worked .amount .0), badAmount) ∷ []
+
+-- the hour's own number, 16, the ledger's own
+abbrev pub jointRefusal : Settlement → ℕ → ℕ
+jointRefusal worked ledger = inOrder (postTests worked ++ own ledger ∷ [])
+
 -- the amount of an hour, posted
 unfoldable pub postedOf : Settlement → Month → ℕ → ℕ → Joined
 postedOf worked month day hour =
     let booked = monthAnswer month (Call.post day hour (amountItem (worked .amount .0))) in
-    joined (orElse (worked .refusal) (unless (isAmount (worked .amount .0)) badAmount (booked .refusal)))
+    joined (jointRefusal worked (booked .refusal))
     worked (booked .month) month
 
 -- "the joint call gives the same numbers and takes no such run"
+abbrev pub workedBy : WholeHour → Settlement
+workedBy h = hourAnswer h secondsOfHour
+
 unfoldable pub jointOf : WholeHour → Month → ℕ → ℕ → Joined
-jointOf h month day hour = postedOf (hourAnswer h secondsOfHour) month day hour
+jointOf h month day hour = postedOf (workedBy h) month day hour
+
+-- a call of `hour` on h, with a lent run of 3,600 scores, and one of `joint` on the same hour
+pub record SameHour (h : WholeHour) (scores : List ℕ) (g : WholeHour) : Type 0 where
+  pub hour : h ≡ g
+  pub run : length scores ≡ secondsOfHour

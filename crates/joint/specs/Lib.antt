@@ -1,3 +1,4 @@
 -- The joint call, and runs of calls with it.
 pub mod Joint
 pub mod Runs
+pub mod Calls

@@ -6,27 +6,29 @@ use mathlib.Core.Bool.{Bool, true}
 use mathlib.Core.List.{List, [], _∷_}
 use lib.Dec.{eqb}
 use lib.IntN.{ℤ}
-use Rattle.whole.specs.Choice.{pick}
-use Rattle.units.specs.Limits.{isAmount}
+use Rattle.whole.specs.Choice.{pick, inOrder}
 use Rattle.history.specs.Rules.{Call}
 use Rattle.history.specs.History.{Recorded}
 use Rattle.history.specs.Demand.{Ledger}
 use Rattle.head.specs.Rules.{Fee, Item, amountItem}
 use Rattle.month.specs.declared.Month.{Month}
 use Rattle.hour.specs.declared.Settlement.{Settlement}
-use Rattle.joint.specs.Joint.{refusedBeside, postedOf}
+use Rattle.joint.specs.Joint.{refusedBeside, postTests, postedOf}
 use Rattle.joint.specs.declared.Joined.{Joined}
 
--- a joint call, whatever it settles: it works an hour out, with an amount in the ledger's range, and answers what that hour is, posted
-pub record JointCalled (worked : Settlement) (m : Month) (d x : ℕ) (answer : Joined) : Type 0 where
-  pub inside : isAmount (worked .amount .0) ≡ true
-  pub posts : answer ≡ postedOf worked m d x
+-- a joint call, whatever it settles: it works an hour out and answers what that hour is, posted
+abbrev pub JointCalled : Settlement → Month → ℕ → ℕ → Joined → Type 0
+JointCalled worked m d x answer = answer ≡ postedOf worked m d x
+
+-- the number that keeps the hour from the ledger: its own, or 16
+abbrev pub keptFrom : Settlement → ℕ
+keptFrom worked = inOrder (postTests worked)
 
 -- what happened in a run, newest first
 pub data Event : Type 0 where
   -- a call on the ledger and the number that it was answered: by hand, or the post of an accepted hour by the joint call
   made : Recorded Fee Item → Event
-  -- a joint call whose hour was refused: the month that was handed in, the hour's number, and the answer
+  -- a joint call whose hour was kept from the ledger: the month that was handed in, the number that kept it, and the answer
   turned : Month → ℕ → Joined → Event
 
 -- the ledger's history is told by the calls on it alone
@@ -35,7 +37,7 @@ callsOf [] = []
 callsOf (made e ∷ es) = e ∷ callsOf es
 callsOf (turned m k answer ∷ es) = callsOf es
 
--- each joint call whose hour was refused was answered the hour's number only, which is not 0, with the month that was handed in
+-- each joint call whose hour was kept from the ledger was answered the number that kept it only, the hour's own or 16, which is not 0, with the month that was handed in
 abbrev pub TurnedAway : List Event → Type 0
 TurnedAway [] = Unit {0}
 TurnedAway (made e ∷ es) = TurnedAway es
@@ -49,12 +51,12 @@ pub data JointRun (L : Ledger ℕ Fee Bool ℤ Month) (days : ℕ) : List Event 
   opens : (m : Month) → L .Opens days m → JointRun L days [] m
   by-hand : (es : List Event) (m : Month) (c : Call Fee Item) (k : ℕ) (n : Month) → JointRun L days es m → L .Answers m c k n
       → JointRun L days (made (record { call = c; answer = k }) ∷ es) n
-  -- the hour is accepted: a post of its amount
-  by-joint : (es : List Event) (worked : Settlement) (m : Month) (d x : ℕ) (j : Joined) → JointRun L days es m → JointCalled worked m d x j → worked .refusal ≡ 0
+  -- the hour is accepted and its amount in the ledger's range: a post of it
+  by-joint : (es : List Event) (worked : Settlement) (m : Month) (d x : ℕ) (j : Joined) → JointRun L days es m → JointCalled worked m d x j → keptFrom worked ≡ 0
       → JointRun L days (made (record { call = postOf worked d x; answer = j .hour .refusal }) ∷ es) (j .month)
-  -- the hour is refused: no post
-  by-refused : (es : List Event) (worked : Settlement) (m : Month) (d x : ℕ) (j : Joined) → JointRun L days es m → JointCalled worked m d x j → (worked .refusal ≡ 0 → ⊥)
-      → JointRun L days (turned m (worked .refusal) j ∷ es) (j .month)
+  -- the hour is kept from it: no post
+  by-refused : (es : List Event) (worked : Settlement) (m : Month) (d x : ℕ) (j : Joined) → JointRun L days es m → JointCalled worked m d x j → (keptFrom worked ≡ 0 → ⊥)
+      → JointRun L days (turned m (keptFrom worked) j ∷ es) (j .month)
 
 -- ---- hours worked out, each with the day and the hour to post it on
 
@@ -62,16 +64,15 @@ pub record WorkedHour : Type 0 where
   pub worked : Settlement
   pub day : ℕ
   pub hour : ℕ
-  pub inside : isAmount (worked .amount .0) ≡ true
 
 abbrev pub jointAnswer : WorkedHour → Month → Joined
 jointAnswer a m = postedOf (a .worked) m (a .day) (a .hour)
 
 abbrev pub eventOf : WorkedHour → Month → Event
 eventOf a m =
-    pick (eqb (a .worked .refusal) 0)
+    pick (eqb (keptFrom (a .worked)) 0)
     (made (record { call = postOf (a .worked) (a .day) (a .hour); answer = jointAnswer a m .hour .refusal }))
-    (turned m (a .worked .refusal) (jointAnswer a m))
+    (turned m (keptFrom (a .worked)) (jointAnswer a m))
 
 -- each is given the month that the one before handed back, newest first
 abbrev pub monthAfter : Month → List WorkedHour → Month

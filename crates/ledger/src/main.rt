@@ -18,7 +18,8 @@ fn room() -> [u8; 786432]
     [0; 786432]
 }
 
-// One read, and one write of the answers to the lines that end in it. No more is read once every line is answered that ever will be.
+// One read, and one write of the answers to the lines that end in it. No more is read once every line is answered
+// that ever will be.
 fn read_once(
     state: Progress,
     input: &mut [u8],

@@ -1,5 +1,6 @@
-// The run cases of the program `ledger`. The input has them one after another: a heading, a byte 01, the input of the case, a byte 00.
-// Each goes to crates/intake in chunks of one byte, the smallest there are, and its transcript is written under the heading.
+// The run cases of the program `ledger`. The input has them one after another: a heading, a byte 01, the input of the
+// case, a byte 00. Each goes to crates/intake in chunks of one byte, the smallest there are, and its transcript is
+// written under the heading.
 use intake::Progress;
 use units::limits;
 

@@ -1,6 +1,6 @@
 -- The loss fee: how large each part is, that a granted answer is the paper's formula, and that the ledger takes every one. By the
 -- ranges that a granted call has tested. Assumes nothing.
-use Prim.Native.Nat.{_+_, _*_, _≤_}
+use Prim.Native.Nat.{ℕ, _+_, _*_, _/_, _≤_}
 use mathlib.Core.Path.{_≡_, refl}
 use mathlib.Core.Bool.{Bool, true, false, _&&_}
 use mathlib.Core.List.{[], _∷_}
@@ -16,13 +16,8 @@ use Rattle.whole.proofs.Signed.{inside, difference, times, ltZ-false}
 use Rattle.units.specs.Refusals.{badMoney, badEnergy}
 use Rattle.units.specs.Limits.{isEnergy, isVoltage, isCost, isLossFee, mostEnergy, mostCost, mostLossFee}
 use Rattle.loss.specs.Loss.{atLeastZero, net, above, percent, basicFee, excessFee, lossRefusal, added, lossAnswer}
+use Rattle.loss.specs.Accepted.{LossFits}
 use Rattle.whole.proofs.Bounds.{from-zero, product-between, sum-between, nearest-between}
-
-pub record LossFits (charged discharged voltage cost : ℤ) : Type 0 where
-  pub into : isEnergy charged ≡ true
-  pub out : isEnergy discharged ≡ true
-  pub volts : isVoltage voltage ≡ true
-  pub money : isCost cost ≡ true
 
 pub loss-fits : (charged discharged voltage cost : ℤ) → lossRefusal charged discharged voltage cost ≡ 0 → LossFits charged discharged voltage cost
 unfolding lossRefusal
@@ -35,6 +30,13 @@ loss-fits charged discharged voltage cost e =
 pub loss-passes : {charged discharged voltage cost : ℤ} → LossFits charged discharged voltage cost → lossRefusal charged discharged voltage cost ≡ 0
 unfolding lossRefusal
 loss-passes f = rw (f .into, f .out, f .volts, f .money)
+
+-- no part is larger: the most energy by the largest factor and the most cost; and for the excess four fifths of it, twice
+abbrev pub mostBasic : ℕ
+mostBasic = mostEnergy * (108 * mostCost) / (100 * 10000)
+
+abbrev pub mostExcess : ℕ
+mostExcess = 4 * mostEnergy * (108 * mostCost) * 2 / (5 * 100 * 10000)
 
 -- no larger than what is not negative and not less
 zero-between : (z w : ℤ) → up z + down w ≤ up w + down z → down w ≤ up w → Between (pos 0) w (atLeastZero z)
@@ -90,24 +92,24 @@ module _ {charged discharged voltage cost : ℤ} (f : LossFits charged discharge
   pub excess-product : Between (pos 0) (pos (4 * mostEnergy * (108 * mostCost) * 2)) (above charged discharged *ℤ (percent voltage *ℤ cost) *ℤ pos 2)
   excess-product = product-between {b = 2} _ (pos 2) excess-half (omega arith)
 
-  pub basic-between : Between (pos 0) (pos 10800000000) (basicFee charged discharged voltage cost)
+  pub basic-between : Between (pos 0) (pos mostBasic) (basicFee charged discharged voltage cost)
   unfolding basicFee
-  basic-between = nearest-between _ (100 * 10000) 10800000000 (omega arith) basic-product
+  basic-between = nearest-between _ (100 * 10000) mostBasic (omega arith) basic-product
 
-  pub excess-between : Between (pos 0) (pos 17280000000) (excessFee charged discharged voltage cost)
+  pub excess-between : Between (pos 0) (pos mostExcess) (excessFee charged discharged voltage cost)
   unfolding excessFee
-  excess-between = nearest-between _ (5 * 100 * 10000) 17280000000 (omega arith) excess-product
+  excess-between = nearest-between _ (5 * 100 * 10000) mostExcess (omega arith) excess-product
 
   pub loss-granted : lossAnswer charged discharged voltage cost ≡ added 0 (basicFee charged discharged voltage cost) (excessFee charged discharged voltage cost)
   unfolding lossAnswer
   loss-granted = kept-new (added 0 (basicFee charged discharged voltage cost) (excessFee charged discharged voltage cost)) (added (lossRefusal charged discharged voltage cost) (pos 0) (pos 0)) (loss-passes f)
 
-pub loss-between : (charged discharged voltage cost : ℤ) → Between (pos 0) (pos 28080000000) (lossAnswer charged discharged voltage cost .total .0)
+pub loss-between : (charged discharged voltage cost : ℤ) → Between (pos 0) (pos (mostBasic + mostExcess)) (lossAnswer charged discharged voltage cost .total .0)
 unfolding lossAnswer added
 loss-between charged discharged voltage cost = by (eqb (lossRefusal charged discharged voltage cost) 0) (eqb-true _ 0)
   where
     by : (b : Bool) → (b ≡ true → lossRefusal charged discharged voltage cost ≡ 0)
-        → Between (pos 0) (pos 28080000000) (pick b (added 0 (basicFee charged discharged voltage cost) (excessFee charged discharged voltage cost)) (added (lossRefusal charged discharged voltage cost) (pos 0) (pos 0)) .total .0)
+        → Between (pos 0) (pos (mostBasic + mostExcess)) (pick b (added 0 (basicFee charged discharged voltage cost) (excessFee charged discharged voltage cost)) (added (lossRefusal charged discharged voltage cost) (pos 0) (pos 0)) .total .0)
     by true e = let f = loss-fits charged discharged voltage cost (e refl) in sum-between _ _ (basic-between f) (excess-between f)
     by false e = omega arith
 

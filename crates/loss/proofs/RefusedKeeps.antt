@@ -10,6 +10,6 @@ use Rattle.loss.proofs.loss_fee.Kinds as loss-kinds
 
 loss-fee-refused-keeps : RefusedBare 0 loss-kinds.ps loss-kinds.r (λ κs x. x .refusal) (λ κs a k. added k (pos 0) (pos 0)) loss-reads.Post
 unfolding lossAnswer added
-loss-fee-refused-keeps κs a x s =
-    refused-bare (λ (c : LossFee). c .refusal) (λ k. added k (pos 0) (pos 0)) (lossRefusal (a .0) (a .1 .0) (a .1 .1 .0) (a .1 .1 .1 .0))
-    (added 0 (basicFee (a .0) (a .1 .0) (a .1 .1 .0) (a .1 .1 .1 .0)) (excessFee (a .0) (a .1 .0) (a .1 .1 .0) (a .1 .1 .1 .0))) refl refl
+loss-fee-refused-keeps κs (charged, (discharged, (voltage, (cost, end)))) x s =
+    refused-bare (λ (c : LossFee). c .refusal) (λ k. added k (pos 0) (pos 0)) (lossRefusal charged discharged voltage cost)
+    (added 0 (basicFee charged discharged voltage cost) (excessFee charged discharged voltage cost)) refl refl

@@ -1,2 +1,3 @@
 -- The loss fee.
 pub mod Loss
+pub mod Accepted

@@ -18,23 +18,21 @@ pub struct LossFee {
     pub total: Dollars,
 }
 
-fn at_least_zero(z: i64) -> i64
-    ensures { λ r. ⌜ r ≡ atLeastZero z ⌝ }
+// The loss fee by the energy charged and discharged in kWh, the voltage in V and the average cost in ten-thousandths of
+// a dollar.
+pub fn loss_fee(charged: i64, discharged: i64, voltage: i64, cost: i64) -> LossFee
+    ensures { λ r. ⌜ r ≡ lossAnswer charged discharged voltage cost ⌝ }
 {
-    if z < 0 { 0 } else { z }
-}
-
-// The factor of a voltage, in percent.
-fn percent(voltage: i64) -> i64
-    ensures { λ r. ⌜ r ≡ percent voltage ⌝ }
-{
-    if voltage < 11_400 {
-        return 108;
+    let k = loss_refusal(charged, discharged, voltage, cost);
+    if k == 0 {
+        return losses(charged, discharged, voltage, cost);
     }
-    if voltage < 69_000 {
-        return 105;
+    LossFee {
+        refusal: k,
+        basic: Dollars(0),
+        excess: Dollars(0),
+        total: Dollars(0),
     }
-    104
 }
 
 fn loss_refusal(charged: i64, discharged: i64, voltage: i64, cost: i64) -> u8
@@ -67,18 +65,21 @@ fn losses(charged: i64, discharged: i64, voltage: i64, cost: i64) -> LossFee
     }
 }
 
-// The loss fee by the energy charged and discharged in kWh, the voltage in V and the average cost in ten-thousandths of a dollar.
-pub fn loss_fee(charged: i64, discharged: i64, voltage: i64, cost: i64) -> LossFee
-    ensures { λ r. ⌜ r ≡ lossAnswer charged discharged voltage cost ⌝ }
+fn at_least_zero(z: i64) -> i64
+    ensures { λ r. ⌜ r ≡ atLeastZero z ⌝ }
 {
-    let k = loss_refusal(charged, discharged, voltage, cost);
-    if k == 0 {
-        return losses(charged, discharged, voltage, cost);
+    if z < 0 { 0 } else { z }
+}
+
+// The factor of a voltage, in percent.
+fn percent(voltage: i64) -> i64
+    ensures { λ r. ⌜ r ≡ percent voltage ⌝ }
+{
+    if voltage < 11_400 {
+        return 108;
     }
-    LossFee {
-        refusal: k,
-        basic: Dollars(0),
-        excess: Dollars(0),
-        total: Dollars(0),
+    if voltage < 69_000 {
+        return 105;
     }
+    104
 }

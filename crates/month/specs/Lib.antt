@@ -1,2 +1,3 @@
 -- The month ledger.
 pub mod Month
+pub mod Inner

@@ -1,7 +1,6 @@
 -- The month ledger (document 01, "The ledger"): what each call and read-out on a month by value answers, as an instance of the theory of any ledger.
 use Prim.Native.Nat.{ℕ}
 use mathlib.Core.Bool.{Bool, false}
-use mathlib.Core.List.{List}
 use lib.IntN.{ℤ, pos}
 use lib.ListN.{replicate}
 use Rattle.whole.specs.Choice.{pick, unless}
@@ -11,7 +10,6 @@ use Rattle.units.specs.Units.{dollars}
 use Rattle.history.specs.Rules.{Call, Rules}
 use Rattle.history.specs.Board.{Board, refusalOf, nextOf, orReachable, hourOn, dayOn, totalOn, standingOn}
 use Rattle.head.specs.Rules.{Fee, Item, monthRules}
-use Rattle.head.specs.declared.Head.{Head}
 use Rattle.board.specs.Board.{toldOf}
 use Rattle.board.specs.declared.Told.{Told}
 use Rattle.month.specs.declared.Month.{Month}
@@ -30,14 +28,6 @@ abbrev pub monthOf : ℕ → Board Fee Bool ℤ → Month
 monthOf days b = record { days = days; closed = b .closed; fee = dollars (b .fee tt); marks = b .marks; amounts = b .amounts }
 
 -- ---- the calls
-
-abbrev pub monthHead : Month → Head
-monthHead m = record { days = m .days; closed = m .closed; fee = m .fee }
-
--- a refusal's number, and a month of a head and its places
-abbrev pub bookedOf : ℕ → Head → List Bool → List ℤ → Booked
-bookedOf k head marks amounts =
-    record { refusal = k; month = record { days = head .days; closed = head .closed; fee = head .fee; marks = marks; amounts = amounts } }
 
 -- every place empty, no fee, open
 unfoldable pub freshMonth : ℕ → Month

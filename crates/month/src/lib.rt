@@ -1,13 +1,14 @@
 // The month ledger: its hour places, a loss fee, and a mark that stops every change. It knows nothing of readings.
 //
-// The calls on a `Month` by value refuse with 22 a ledger that no run of calls hands back, and go through the calls in place (crate board).
+// The calls on a `Month` by value refuse with 22 a ledger that no run of calls hands back, and go through the calls in
+// place (crate board) or on the head (crate head).
 ghost use Prim.Native.Nat.{_+_, _≤_};
 ghost use mathlib.Core.Path.{_≡_};
 ghost use mathlib.Core.Bool.{false};
 ghost use lib.IntN.{pos};
 ghost use lib.ListN.{length, getD, take, drop};
 ghost use Rattle.whole.specs.Folds.{countTo};
-ghost use Rattle.whole.specs.Whole.{summed};
+ghost use Rattle.whole.specs.Inner.{summed};
 ghost use Rattle.units.specs.Limits.{hoursOfDay, monthPlaces};
 ghost use Rattle.units.specs.Refusals.{notReachable};
 ghost use Rattle.units.specs.Units.{dollars};
@@ -15,7 +16,8 @@ ghost use Rattle.history.specs.Rules.{Call};
 ghost use Rattle.history.specs.Board.{wellFormed};
 ghost use Rattle.head.specs.Rules.{amountItem};
 ghost use Rattle.board.specs.Board.{toldOf};
-ghost use Rattle.month.specs.Month.{monthHead, bookedOf, rulesOf, boardOf, openOf, monthAnswer, hourTold, dayTold, totalTold, standingTold};
+ghost use Rattle.month.specs.Month.{rulesOf, boardOf, openOf, monthAnswer, hourTold, dayTold, totalTold, standingTold};
+ghost use Rattle.month.specs.Inner.{monthHead, bookedOf};
 use board::Told;
 use head::Head;
 use units::Dollars;
@@ -42,29 +44,188 @@ pub struct Counted {
     pub standing: usize,
 }
 
-fn standing_in(marks: &[bool; limits::PLACES]) -> usize
-    ensures { λ r. ⌜ r ≡ countTo monthPlaces (λ p. getD (now (marks .entry)) p false) ⌝ }
-{
-    let mut n = 0;
-    let mut p = 0;
-    while p < limits::PLACES {
-        n += marks[p] as usize;
-        p += 1;
-    }
-    n
-}
+impl Month {
+    pub const PLACES: usize = limits::PLACES;
 
-// The sum of a day's amounts from its first place on.
-fn day_sum(amounts: &[i64], from: usize) -> Dollars
-    requires { ⌜ from + hoursOfDay ≤ length (now amounts) ⌝ }
-    ensures { λ r. ⌜ r ≡ dollars (summed (take hoursOfDay (drop from (now (amounts .entry)))) .sum) ⌝ }
-{
-    let s = whole::sum(&amounts[from..from + limits::HOURS]);
-    Dollars(s.sum)
+    pub const LEAST: i64 = -limits::AMOUNT;
+
+    pub const MOST: i64 = limits::AMOUNT;
+
+    pub const FEE: i64 = limits::LOSS_FEE;
+
+    // A fresh month of 28 to 31 days.
+    pub fn open(days: u8) -> Booked
+        ensures { λ r. ⌜ r ≡ openOf days ⌝ }
+    {
+        let opened = head::open(days);
+        let head = opened.head;
+        booked_of(
+            opened.refusal,
+            head,
+            [false; limits::PLACES],
+            [0; limits::PLACES],
+        )
+    }
+
+    // Puts an amount at an hour that is empty.
+    pub fn post(self, day: u8, hour: u8, amount: Dollars) -> Booked
+        ensures { λ r. ⌜ r ≡ monthAnswer self (Call.post day hour (amountItem (amount .0))) ⌝ }
+    {
+        if !self.well_formed() {
+            return self.unreachable();
+        }
+        let head = self.head();
+        let mut marks = self.marks;
+        let mut amounts = self.amounts;
+        let free = head::place_of(day, hour);
+        let k = board::post_in(head, &mut marks, &mut amounts, free, amount);
+        booked_of(k, head, marks, amounts)
+    }
+
+    // Puts another amount at an hour that stands.
+    pub fn replace(self, day: u8, hour: u8, amount: Dollars) -> Booked
+        ensures { λ r. ⌜ r ≡ monthAnswer self (Call.replace day hour (amountItem (amount .0))) ⌝ }
+    {
+        if !self.well_formed() {
+            return self.unreachable();
+        }
+        let head = self.head();
+        let mut marks = self.marks;
+        let mut amounts = self.amounts;
+        let held = head::place_of(day, hour);
+        let k = board::replace_in(head, &mut marks, &mut amounts, held, amount);
+        booked_of(k, head, marks, amounts)
+    }
+
+    // Empties an hour that stands.
+    pub fn withdraw(self, day: u8, hour: u8) -> Booked
+        ensures { λ r. ⌜ r ≡ monthAnswer self (Call.withdraw day hour) ⌝ }
+    {
+        if !self.well_formed() {
+            return self.unreachable();
+        }
+        let head = self.head();
+        let mut marks = self.marks;
+        let mut amounts = self.amounts;
+        let freed = head::place_of(day, hour);
+        let k = board::withdraw_in(head, &mut marks, &mut amounts, freed);
+        booked_of(k, head, marks, amounts)
+    }
+
+    // Sets the loss fee, which replaces the former.
+    pub fn loss_fee(self, amount: Dollars) -> Booked
+        ensures { λ r. ⌜ r ≡ monthAnswer self (Call.lossFee tt (amount .0)) ⌝ }
+    {
+        if !self.well_formed() {
+            return self.unreachable();
+        }
+        let marks = self.marks;
+        let amounts = self.amounts;
+        let next = head::loss_fee(self.head(), amount);
+        let head = next.head;
+        booked_of(next.refusal, head, marks, amounts)
+    }
+
+    // Stops every change.
+    pub fn close(self) -> Booked
+        ensures { λ r. ⌜ r ≡ monthAnswer self Call.close ⌝ }
+    {
+        if !self.well_formed() {
+            return self.unreachable();
+        }
+        let marks = self.marks;
+        let amounts = self.amounts;
+        let shut = head::close(self.head());
+        let head = shut.head;
+        booked_of(shut.refusal, head, marks, amounts)
+    }
+
+    // One hour's amount.
+    pub fn hour(self, day: u8, hour: u8) -> Told
+        ensures { λ r. ⌜ r ≡ hourTold self day hour ⌝ }
+    {
+        if !self.well_formed() {
+            return refused(refusals::NOT_REACHABLE);
+        }
+        let head = self.head();
+        let asked = head::place_of(day, hour);
+        board::hour_in(head, &self.marks, &self.amounts, asked)
+    }
+
+    // A day's sum.
+    pub fn day(self, day: u8) -> Told
+        ensures { λ r. ⌜ r ≡ dayTold self day ⌝ }
+    {
+        if !self.well_formed() {
+            return refused(refusals::NOT_REACHABLE);
+        }
+        let first = head::place_of(day, 0);
+        if head::places(self.days) <= first {
+            return refused(refusals::NOT_IN_MONTH);
+        }
+        Told {
+            refusal: 0,
+            amount: day_sum(&self.amounts, first),
+        }
+    }
+
+    // The month total: the amounts less the loss fee.
+    pub fn total(self) -> Told
+        ensures { λ r. ⌜ r ≡ totalTold self ⌝ }
+    {
+        let head = self.head();
+        board::total_in(head, &self.marks, &self.amounts)
+    }
+
+    // How many hours stand.
+    pub fn standing(self) -> Counted
+        ensures { λ r. ⌜ r ≡ standingTold self ⌝ }
+    {
+        if !self.well_formed() {
+            return Counted {
+                refusal: refusals::NOT_REACHABLE,
+                standing: 0,
+            };
+        }
+        Counted {
+            refusal: 0,
+            standing: standing_on(&self.marks),
+        }
+    }
+
+    // Whether some run of calls from a fresh month hands this one back.
+    fn well_formed(self) -> bool
+        ensures { λ r. ⌜ r ≡ wellFormed (rulesOf self) (boardOf self) ⌝ }
+    {
+        let head = self.head();
+        board::check_in(head, &self.marks, &self.amounts) == 0
+    }
+
+    // The month without its places.
+    fn head(self) -> Head
+        ensures { λ r. ⌜ r ≡ monthHead self ⌝ }
+    {
+        let fee = self.fee;
+        Head {
+            days: self.days,
+            closed: self.closed,
+            fee: fee,
+        }
+    }
+
+    // The same ledger back, with 22.
+    fn unreachable(self) -> Booked
+        ensures { λ r. ⌜ r ≡ record { refusal = notReachable; month = self } ⌝ }
+    {
+        Booked {
+            refusal: refusals::NOT_REACHABLE,
+            month: self,
+        }
+    }
 }
 
 // What a call answers, put together from its number, its head and its places.
-fn put_together(
+fn booked_of(
     k: u8,
     head: Head,
     marks: [bool; limits::PLACES],
@@ -95,181 +256,23 @@ fn refused(k: u8) -> Told
     }
 }
 
-impl Month {
-    pub const PLACES: usize = limits::PLACES;
+// The sum of a day's amounts from its first place on.
+fn day_sum(amounts: &[i64], from: usize) -> Dollars
+    requires { ⌜ from + hoursOfDay ≤ length (now amounts) ⌝ }
+    ensures { λ r. ⌜ r ≡ dollars (summed (take hoursOfDay (drop from (now (amounts .entry)))) .sum) ⌝ }
+{
+    let s = whole::sum(&amounts[from..from + limits::HOURS]);
+    Dollars(s.sum)
+}
 
-    pub const LEAST: i64 = -limits::AMOUNT;
-
-    pub const MOST: i64 = limits::AMOUNT;
-
-    pub const FEE: i64 = limits::LOSS_FEE;
-
-    // Whether some run of calls from a fresh month hands this one back.
-    fn well_formed(self) -> bool
-        ensures { λ r. ⌜ r ≡ wellFormed (rulesOf self) (boardOf self) ⌝ }
-    {
-        let head = self.head();
-        board::check_in(head, &self.marks, &self.amounts) == 0
+fn standing_on(marks: &[bool; limits::PLACES]) -> usize
+    ensures { λ r. ⌜ r ≡ countTo monthPlaces (λ p. getD (now (marks .entry)) p false) ⌝ }
+{
+    let mut n = 0;
+    let mut p = 0;
+    while p < limits::PLACES {
+        n += marks[p] as usize;
+        p += 1;
     }
-
-    fn head(self) -> Head
-        ensures { λ r. ⌜ r ≡ monthHead self ⌝ }
-    {
-        let fee = self.fee;
-        Head {
-            days: self.days,
-            closed: self.closed,
-            fee: fee,
-        }
-    }
-
-    // The same ledger back, with 22.
-    fn unreachable(self) -> Booked
-        ensures { λ r. ⌜ r ≡ record { refusal = notReachable; month = self } ⌝ }
-    {
-        Booked {
-            refusal: refusals::NOT_REACHABLE,
-            month: self,
-        }
-    }
-
-    // A fresh month of 28 to 31 days.
-    pub fn open(days: u8) -> Booked
-        ensures { λ r. ⌜ r ≡ openOf days ⌝ }
-    {
-        let opened = head::open(days);
-        let head = opened.head;
-        put_together(
-            opened.refusal,
-            head,
-            [false; limits::PLACES],
-            [0; limits::PLACES],
-        )
-    }
-
-    // Puts an amount at an hour that is empty.
-    pub fn post(self, day: u8, hour: u8, amount: Dollars) -> Booked
-        ensures { λ r. ⌜ r ≡ monthAnswer self (Call.post day hour (amountItem (amount .0))) ⌝ }
-    {
-        if !self.well_formed() {
-            return self.unreachable();
-        }
-        let head = self.head();
-        let mut marks = self.marks;
-        let mut amounts = self.amounts;
-        let free = head::place_of(self.days, day, hour);
-        let k = board::post_in(head, &mut marks, &mut amounts, free, amount);
-        put_together(k, head, marks, amounts)
-    }
-
-    // Puts another amount at an hour that stands.
-    pub fn replace(self, day: u8, hour: u8, amount: Dollars) -> Booked
-        ensures { λ r. ⌜ r ≡ monthAnswer self (Call.replace day hour (amountItem (amount .0))) ⌝ }
-    {
-        if !self.well_formed() {
-            return self.unreachable();
-        }
-        let head = self.head();
-        let mut marks = self.marks;
-        let mut amounts = self.amounts;
-        let held = head::place_of(self.days, day, hour);
-        let k = board::replace_in(head, &mut marks, &mut amounts, held, amount);
-        put_together(k, head, marks, amounts)
-    }
-
-    // Empties an hour that stands.
-    pub fn withdraw(self, day: u8, hour: u8) -> Booked
-        ensures { λ r. ⌜ r ≡ monthAnswer self (Call.withdraw day hour) ⌝ }
-    {
-        if !self.well_formed() {
-            return self.unreachable();
-        }
-        let head = self.head();
-        let mut marks = self.marks;
-        let mut amounts = self.amounts;
-        let freed = head::place_of(self.days, day, hour);
-        let k = board::withdraw_in(head, &mut marks, &mut amounts, freed);
-        put_together(k, head, marks, amounts)
-    }
-
-    // Sets the loss fee, which replaces the former.
-    pub fn loss_fee(self, amount: Dollars) -> Booked
-        ensures { λ r. ⌜ r ≡ monthAnswer self (Call.lossFee tt (amount .0)) ⌝ }
-    {
-        if !self.well_formed() {
-            return self.unreachable();
-        }
-        let marks = self.marks;
-        let amounts = self.amounts;
-        let next = head::loss_fee(self.head(), amount);
-        let head = next.head;
-        put_together(next.refusal, head, marks, amounts)
-    }
-
-    // Stops every change.
-    pub fn close(self) -> Booked
-        ensures { λ r. ⌜ r ≡ monthAnswer self Call.close ⌝ }
-    {
-        if !self.well_formed() {
-            return self.unreachable();
-        }
-        let marks = self.marks;
-        let amounts = self.amounts;
-        let shut = head::close(self.head());
-        let head = shut.head;
-        put_together(shut.refusal, head, marks, amounts)
-    }
-
-    // One hour's amount.
-    pub fn hour(self, day: u8, hour: u8) -> Told
-        ensures { λ r. ⌜ r ≡ hourTold self day hour ⌝ }
-    {
-        if !self.well_formed() {
-            return refused(refusals::NOT_REACHABLE);
-        }
-        let head = self.head();
-        let asked = head::place_of(self.days, day, hour);
-        board::hour_in(head, &self.marks, &self.amounts, asked)
-    }
-
-    // A day's sum.
-    pub fn day(self, day: u8) -> Told
-        ensures { λ r. ⌜ r ≡ dayTold self day ⌝ }
-    {
-        if !self.well_formed() {
-            return refused(refusals::NOT_REACHABLE);
-        }
-        let first = head::place_of(self.days, day, 0);
-        if !first.inside {
-            return refused(refusals::NOT_IN_MONTH);
-        }
-        Told {
-            refusal: 0,
-            amount: day_sum(&self.amounts, first.at),
-        }
-    }
-
-    // The month total: the amounts less the loss fee.
-    pub fn total(self) -> Told
-        ensures { λ r. ⌜ r ≡ totalTold self ⌝ }
-    {
-        let head = self.head();
-        board::total_in(head, &self.marks, &self.amounts)
-    }
-
-    // How many hours stand.
-    pub fn standing(self) -> Counted
-        ensures { λ r. ⌜ r ≡ standingTold self ⌝ }
-    {
-        if !self.well_formed() {
-            return Counted {
-                refusal: refusals::NOT_REACHABLE,
-                standing: 0,
-            };
-        }
-        Counted {
-            refusal: 0,
-            standing: standing_in(&self.marks),
-        }
-    }
+    n
 }

@@ -1,11 +1,11 @@
 -- The shape of a question's numbers: single ones, then lists, each with its count before it, then so many, or groups of so many (docs/DESK.md, "Questions").
 use Prim.Native.Nat.{ℕ, _+_, _-_, _*_, _%_}
 use mathlib.Core.Bool.{Bool, true}
-use mathlib.Core.List.{List}
+use mathlib.Core.List.{List, [], _∷_}
 use lib.Dec.{eqb, leb}
 use lib.IntN.{ℤ, pos}
 use lib.ListN.{length, getD}
-use Rattle.whole.specs.Choice.{pick, unless}
+use Rattle.whole.specs.Choice.{pick, inOrder}
 use Rattle.whole.specs.Whole.{up, inRange}
 use Rattle.numbers.specs.Numbers.{number}
 use Rattle.words.specs.Faults.{tooFew, tooMany}
@@ -30,8 +30,8 @@ listAt n at width =
 -- what is wrong with the count of numbers, those from a place on being so many, or so many and then groups
 unfoldable pub endFault : List ℤ → ℕ → ℕ → ℕ → ℕ
 endFault n at tail group =
-    unless (leb (at + tail) (length n)) tooFew
-    (pick (eqb group 0) (unless (eqb (length n - (at + tail)) 0) tooMany 0) (unless (eqb ((length n - (at + tail)) % group) 0) tooFew 0))
+    let left = length n - (at + tail) in
+    inOrder ((leb (at + tail) (length n), tooFew) ∷ pick (eqb group 0) (eqb left 0, tooMany) (eqb (left % group) 0, tooFew) ∷ [])
 
 -- A QUESTION'S NUMBERS, CUT BY THEIR SHAPE
 unfoldable pub cutOf : Shape → List ℤ → Places

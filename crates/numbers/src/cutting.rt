@@ -8,16 +8,6 @@ use words::faults;
 // The most entries of a list; a count that says more, or less than 0, says none.
 const MOST_ENTRIES: i64 = 100;
 
-// How many entries a count says that there are.
-fn said(z: i64) -> usize
-    ensures { λ r. ⌜ r ≡ said z ⌝ }
-{
-    if whole::within(z, 0, MOST_ENTRIES) {
-        return z as usize;
-    }
-    0
-}
-
 // The list whose count stands at a place, its entries of so many numbers; of 0 numbers, no list.
 pub(crate) fn list_at(numbers: &[i64], at: usize, width: u8) -> Span
     requires { ⌜ at ≤ 100000 ⌝ }
@@ -55,4 +45,14 @@ pub(crate) fn end_fault(numbers: &[i64], at: usize, tail: u16, group: u8) -> u8
         return whole::unless(left == 0, faults::TOO_MANY, 0);
     }
     whole::unless(left % group as usize == 0, faults::TOO_FEW, 0)
+}
+
+// How many entries a count says that there are.
+fn said(z: i64) -> usize
+    ensures { λ r. ⌜ r ≡ said z ⌝ }
+{
+    if whole::within(z, 0, MOST_ENTRIES) {
+        return z as usize;
+    }
+    0
 }

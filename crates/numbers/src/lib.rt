@@ -58,14 +58,6 @@ pub fn byte_of(z: i64) -> u8
     255
 }
 
-// Where the first number of a column stands.
-fn starts(second: bool) -> usize
-    ensures { λ r. ⌜ r ≡ pick second 1 0 ⌝ }
-    ensures { λ r. ⌜ r ≤ 1 ⌝ }
-{
-    if second { 1 } else { 0 }
-}
-
 // Fills a run with the first or the second number of each pair, zeros past their end.
 pub fn column(pairs: &[i64], second: bool, run: &mut [i64])
     ensures { λ _. ⌜ now (run .exit) ≡ column (now (pairs .entry)) (pick second 1 0) (length (now (run .entry))) ⌝ }
@@ -76,4 +68,12 @@ pub fn column(pairs: &[i64], second: bool, run: &mut [i64])
         run[i] = whole::at(pairs, start + 2 * i);
         i += 1;
     }
+}
+
+// Where the first number of a column stands.
+fn starts(second: bool) -> usize
+    ensures { λ r. ⌜ r ≡ pick second 1 0 ⌝ }
+    ensures { λ r. ⌜ r ≤ 1 ⌝ }
+{
+    if second { 1 } else { 0 }
 }

@@ -5,7 +5,8 @@ use mathlib.Core.List.{List, [], _∷_, _++_}
 use native.Mathlib.Nat.{le-of-suc-le-suc, not-suc-le-zero}
 use lib.IntN.{ℤ, pos}
 use lib.ListN.{length, take, replicate}
-use Rattle.words.specs.Replies.{Reply, reply, boxed, unboxed}
+use Rattle.words.specs.Replies.{Reply, reply}
+use Rattle.words.specs.Inner.{boxed, unboxed}
 use Rattle.words.specs.declared.Few.{Few}
 
 front : (xs ys : List ℤ) (m : ℕ) → length xs ≤ m → take (length xs) (take m (xs ++ ys)) ≡ xs

@@ -1,5 +1,4 @@
 -- The laws that belong to no one function.
-mod Laws
 mod Boxes
 mod Telling
 mod LineLaws

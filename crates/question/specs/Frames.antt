@@ -1,37 +1,14 @@
--- The questions that print a frame.
+-- What a question prints that asks for a frame: its 24 digits, or the number of a refusal alone.
 use Prim.Native.Nat.{ℕ}
-use mathlib.Core.Bool.{_&&_}
-use mathlib.Core.List.{List}
-use lib.IntN.{ℤ, pos}
-use lib.ListN.{drop}
-use Rattle.whole.specs.Choice.{unless, orElse}
-use Rattle.units.specs.Refusals.{notInMonth, badKind}
-use Rattle.units.specs.Units.{dollars}
-use Rattle.frame.specs.Kinds.{postKind}
-use Rattle.numbers.specs.Numbers.{number, isByte, byteOf}
-use Rattle.words.specs.declared.Hour.{Hour}
-use Rattle.numbers.specs.declared.Places.{Places}
-use Rattle.hours.specs.Hours.{Basis, hourAsked, settlement}
-use Rattle.question.specs.Parts.{headOf, bandsIn}
-use Rattle.question.specs.declared.Framed.{Framed}
+use mathlib.Core.List.{List, [], _++_}
+use Rattle.whole.specs.Choice.{orElse, kept}
+use Rattle.frame.specs.Frame.{lineDigits, lineOf, writeRefusal}
+use Rattle.frames.specs.declared.Framed.{Framed}
+use Rattle.words.specs.Replies.{reply}
+use Rattle.question.specs.Lines.{endOfLine, lineText}
 
--- a frame, after the number of a refusal that comes before its own: 13 for a kind that is no byte, then 6 for a day or an hour (desk rule)
-unfoldable pub framed : ℕ → ℤ → ℤ → ℤ → ℤ → Framed
-framed before kind day hour amount =
-    record {
-      refusal = orElse before (unless (isByte kind) badKind (unless (isByte day && isByte hour) notInMonth 0));
-      entry = record { kind = byteOf kind; day = byteOf day; hour = byteOf hour; amount = dollars amount };
-    }
+abbrev pub framedRefusal : Framed → ℕ
+framedRefusal f = orElse (f .refusal) (writeRefusal (f .entry) lineDigits)
 
--- KIND DAY HOUR AMOUNT
-unfoldable pub frameAsked : List ℤ → Framed
-frameAsked n = framed 0 (number n 0) (number n 1) (number n 2) (number n 3)
-
--- DAY HOUR, then an hour, its terms after them
-abbrev pub hourFramed : Hour → List ℤ → Places → Basis
-hourFramed hour n places = hourAsked hour (headOf (drop 2 n)) (bandsIn n places) (drop (places .tail) n)
-
--- the frame that posts its amount
-unfoldable pub hourFrame : Hour → List ℤ → Places → Framed
-hourFrame hour n places =
-    let a = settlement (hourFramed hour n places) in framed (a .refusal) (pos postKind) (number n 0) (number n 1) (a .amount .0)
+unfoldable pub frameText : Framed → List ℕ
+frameText f = kept (framedRefusal f) (lineOf (f .entry) ++ endOfLine) (lineText (reply (framedRefusal f) []))

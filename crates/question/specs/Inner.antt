@@ -1,4 +1,4 @@
--- What only mirrors the code: the run that a line is put into, and the words of all faults as the code holds them.
+-- What only mirrors the code: the run that a line is put into.
 use Prim.Native.Nat.{ℕ, _*_}
 use mathlib.Core.List.{List}
 use lib.Dec.{leb}
@@ -7,14 +7,9 @@ use Rattle.whole.specs.Choice.{pick}
 use Rattle.units.specs.Refusals.{wrongLength}
 use Rattle.units.specs.Limits.{secondsOfQuarter}
 use Rattle.text.specs.Text.{put}
-use Rattle.words.specs.Words.{bytes}
 use Rattle.question.specs.declared.Answered.{Answered}
 
--- all of these one after the other, as the code holds them
-abbrev pub allWords : List ℕ
-allWords = bytes ": 101 not a question\n: 102 a number too large for 64 bits\n: 103 too few numbers\n: 104 too many numbers\n: 105 not a number\n: no fault\n"
-
--- ---- a line in a lent run, which has 32,768 places at least or is refused with 1
+-- a line in a lent run, which has 32,768 places at least or is refused with 1
 
 abbrev pub room : ℕ
 room = 32768

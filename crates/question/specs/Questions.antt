@@ -13,42 +13,35 @@ use Rattle.words.specs.declared.Question.{Question}
 use Rattle.words.specs.declared.Question.the-variants as asks
 use Rattle.numbers.specs.declared.Places.{Places}
 use Rattle.words.specs.declared.Hour.{Hour}
-use Rattle.words.specs.declared.Hour.the-variants.{Dreg, Edreg}
 use Rattle.words.specs.declared.Series.{Series}
-use Rattle.words.specs.declared.Series.the-variants.{Ramp, DregScores, EdregScores}
 use Rattle.words.specs.declared.Framing.{Framing}
-use Rattle.words.specs.declared.Framing.the-variants.{DregFrame, EdregFrame, Frame}
 use Rattle.rules.specs.Rules.{ruleReply}
-use Rattle.question.specs.Rules.{rampReply}
-use Rattle.hours.specs.Hours.{hourReply, scoresReply}
+use Rattle.hours.specs.Hours.{hourReply}
+use Rattle.series.specs.Series.{seriesReply}
 use Rattle.question.specs.Parts.{headOf, bandsIn}
-use Rattle.question.specs.Frames.{frameAsked, hourFrame}
-use Rattle.question.specs.Lines.{lineText, frameText, faultText}
-use Rattle.question.specs.declared.Framed.{Framed}
+use Rattle.fault_lines.specs.Text.{faultText}
+use Rattle.question.specs.Lines.{lineText}
+use Rattle.question.specs.Frames.{frameText}
+use Rattle.frames.specs.Frames.{frameAnswer}
+use Rattle.frames.specs.declared.Framed.{Framed}
 
--- the answer to an hour's question, by the numbers and the places of their parts; and its scores
+-- the answer to an hour's question, by the numbers and the places of their parts; and to one about a run
 abbrev pub hourPrints : Hour → List ℤ → Places → Reply
 hourPrints hour n places = hourReply hour (headOf n) (bandsIn n places) (drop (places .tail) n)
 
-abbrev pub scoresPrints : Hour → List ℤ → Places → Reply
-scoresPrints hour n places = scoresReply hour (headOf n) (bandsIn n places) (drop (places .tail) n)
+abbrev pub seriesPrints : Series → List ℤ → Places → Reply
+seriesPrints asks n places = seriesReply asks (headOf n) (bandsIn n places) (drop (places .tail) n)
 
-abbrev pub runOf : Series → List ℤ → Places → Reply
-runOf Ramp n places = rampReply n
-runOf DregScores n places = scoresPrints Dreg n places
-runOf EdregScores n places = scoresPrints Edreg n places
-
-abbrev pub frameOf : Framing → List ℤ → Places → Framed
-frameOf DregFrame n places = hourFrame Dreg n places
-frameOf EdregFrame n places = hourFrame Edreg n places
-frameOf Frame n places = frameAsked (headOf n)
+-- a frame; where it is an hour's, the hour's terms stand after its day and its hour
+abbrev pub framePrints : Framing → List ℤ → Places → Framed
+framePrints asks n places = frameAnswer asks (headOf n) (headOf (drop 2 n)) (bandsIn n places) (drop (places .tail) n)
 
 -- the answer, by the numbers and the places of their parts
 abbrev pub answerText : Question → List ℤ → Places → List ℕ
 answerText (asks.Rule r) n places = lineText (ruleReply r (headOf n) (drop (places .tail) n))
 answerText (asks.Hour h) n places = lineText (hourPrints h n places)
-answerText (asks.Series r) n places = lineText (runOf r n places)
-answerText (asks.Frame f) n places = frameText (frameOf f n places)
+answerText (asks.Series r) n places = lineText (seriesPrints r n places)
+answerText (asks.Frame f) n places = frameText (framePrints f n places)
 answerText asks.Unknown n places = lineText (reply 0 [])
 
 -- the fault: that the word is none of these; the first one that was found while reading; that of the numbers' count

@@ -1,29 +1,25 @@
 // The program `desk` between its reading and its printing: a question's word and numbers in, one line of text out.
 ghost use Prim.Native.Nat.{_≤_};
 ghost use mathlib.Core.Path.{_≡_};
-ghost use mathlib.Core.List.{map};
-ghost use lib.IntN.{pos};
 ghost use lib.ListN.{length, drop};
 ghost use Rattle.text.specs.Text.{put};
-ghost use Rattle.words.specs.Replies.{unboxed};
+ghost use Rattle.words.specs.Inner.{unboxed};
 ghost use Rattle.rules.specs.Rules.{ruleReply};
-ghost use Rattle.question.specs.Rules.{rampReply};
 ghost use Rattle.question.specs.Lines.{lineText};
+ghost use Rattle.question.specs.Frames.{frameText};
 ghost use Rattle.question.specs.Inner.{room, answered, printed};
 ghost use Rattle.question.specs.Parts.{headOf};
-ghost use Rattle.question.specs.Questions.{hourPrints, scoresPrints, runOf, answerText, toldLine, questionText, replyText};
-use frame::Entry;
+ghost use Rattle.question.specs.Questions.{hourPrints, seriesPrints, framePrints, answerText, toldLine, questionText, replyText};
 use numbers::Places;
-use units::Kilowatts;
 use units::limits;
 use units::refusals;
 use words::Few;
+use words::Framing;
 use words::Hour;
 use words::Question;
 use words::Rule;
 use words::Series;
 
-mod frames;
 mod lines;
 mod parts;
 
@@ -34,12 +30,6 @@ pub const ROOM: usize = 32_768;
 pub struct Answered {
     pub refusal: u8,
     pub written: usize,
-}
-
-// An entry, or the number of a refusal before the frame writer's own.
-struct Framed {
-    refusal: u8,
-    entry: Entry,
 }
 
 // Answers a question that was read: puts its line at the start of out. The word is given by its code, and the line is
@@ -103,9 +93,34 @@ fn tell(
     if fault == 0 {
         return put_answer(question, numbers, places, out);
     }
-    let words =
-        b": 101 not a question\n: 102 a number too large for 64 bits\n: 103 too few numbers\n: 104 too many numbers\n: 105 not a number\n: no fault\n";
-    lines::put_fault(fault, line, words, out)
+    fault_lines::put_fault(fault, line, out)
+}
+
+// The line of a question without a fault.
+fn put_answer(question: Question, numbers: &[i64], places: Places, out: &mut [u8]) -> usize
+    requires { ⌜ room ≤ length (now out) ⌝ }
+    ensures place { λ r. ⌜ r ≡ length (answerText question (now (numbers .entry)) places) ⌝ }
+    ensures text { λ r. ⌜ now (out .exit) ≡ put (now (out .entry)) 0 (answerText question (now (numbers .entry)) places) ⌝ }
+    ensures short { λ r. ⌜ r ≤ room ⌝ }
+{
+    match question {
+        Question::Rule(rule) => put_rule(rule, numbers, places.tail, out),
+        Question::Hour(hour) => put_hour(hour, numbers, places, out),
+        Question::Series(asks) => put_series(asks, numbers, places, out),
+        Question::Frame(asks) => put_framed(asks, numbers, places, out),
+        Question::Unknown => lines::put_alone(0, out),
+    }
+}
+
+fn put_rule(rule: Rule, numbers: &[i64], tail: usize, out: &mut [u8]) -> usize
+    requires { ⌜ room ≤ length (now out) ⌝ }
+    ensures place { λ r. ⌜ r ≡ length (lineText (ruleReply rule (headOf (now (numbers .entry))) (drop tail (now (numbers .entry))))) ⌝ }
+    ensures text { λ r. ⌜ now (out .exit) ≡ put (now (out .entry)) 0 (lineText (ruleReply rule (headOf (now (numbers .entry))) (drop tail (now (numbers .entry))))) ⌝ }
+    ensures short { λ r. ⌜ r ≤ room ⌝ }
+{
+    let head = parts::head_of(numbers);
+    let few = rules::answer(rule, head, parts::rest(numbers, tail));
+    put_few(few, out)
 }
 
 // The line of a few fields.
@@ -119,17 +134,6 @@ fn put_few(few: Few, out: &mut [u8]) -> usize
     let n = few.count;
     let values = few.values;
     lines::put_line(few.refusal, &values[..n], out)
-}
-
-fn put_rule(rule: Rule, numbers: &[i64], tail: usize, out: &mut [u8]) -> usize
-    requires { ⌜ room ≤ length (now out) ⌝ }
-    ensures place { λ r. ⌜ r ≡ length (lineText (ruleReply rule (headOf (now (numbers .entry))) (drop tail (now (numbers .entry))))) ⌝ }
-    ensures text { λ r. ⌜ now (out .exit) ≡ put (now (out .entry)) 0 (lineText (ruleReply rule (headOf (now (numbers .entry))) (drop tail (now (numbers .entry))))) ⌝ }
-    ensures short { λ r. ⌜ r ≤ room ⌝ }
-{
-    let head = parts::head_of(numbers);
-    let few = rules::answer(rule, head, parts::rest(numbers, tail));
-    put_few(few, out)
 }
 
 fn put_hour(hour: Hour, numbers: &[i64], places: Places, out: &mut [u8]) -> usize
@@ -148,85 +152,38 @@ fn put_hour(hour: Hour, numbers: &[i64], places: Places, out: &mut [u8]) -> usiz
     put_few(few, out)
 }
 
-fn put_ramp(numbers: &[i64], out: &mut [u8]) -> usize
+fn put_series(asks: Series, numbers: &[i64], places: Places, out: &mut [u8]) -> usize
     requires { ⌜ room ≤ length (now out) ⌝ }
-    ensures place { λ r. ⌜ r ≡ length (lineText (rampReply (now (numbers .entry)))) ⌝ }
-    ensures text { λ r. ⌜ now (out .exit) ≡ put (now (out .entry)) 0 (lineText (rampReply (now (numbers .entry)))) ⌝ }
+    ensures place { λ r. ⌜ r ≡ length (lineText (seriesPrints asks (now (numbers .entry)) places)) ⌝ }
+    ensures text { λ r. ⌜ now (out .exit) ≡ put (now (out .entry)) 0 (lineText (seriesPrints asks (now (numbers .entry)) places)) ⌝ }
     ensures short { λ r. ⌜ r ≤ room ⌝ }
 {
-    let mut seconds = [0i64; limits::QUARTER];
-    let last = Kilowatts(whole::at(numbers, 0));
-    let target = Kilowatts(whole::at(numbers, 1));
-    let k = ramp::ramp(last, target, &mut seconds);
-    let n = lines::shown(k, limits::QUARTER);
-    lines::put_line(k, &seconds[..n], out)
-}
-
-fn wide(b: u8) -> i64
-    ensures { λ r. ⌜ r ≡ pos b ⌝ }
-{
-    b as i64
-}
-
-// Bytes as numbers.
-fn widen(bytes: &[u8], run: &mut [i64])
-    requires { ⌜ length (now run) ≡ length (now bytes) ⌝ }
-    ensures { λ _. ⌜ now (run .exit) ≡ map pos (now (bytes .entry)) ⌝ }
-{
-    let mut i = 0;
-    while i < run.len() {
-        let n = wide(bytes[i]);
-        run[i] = n;
-        i += 1;
-    }
-}
-
-fn put_hour_scores(hour: Hour, numbers: &[i64], places: Places, out: &mut [u8]) -> usize
-    requires { ⌜ room ≤ length (now out) ⌝ }
-    ensures place { λ r. ⌜ r ≡ length (lineText (scoresPrints hour (now (numbers .entry)) places)) ⌝ }
-    ensures text { λ r. ⌜ now (out .exit) ≡ put (now (out .entry)) 0 (lineText (scoresPrints hour (now (numbers .entry)) places)) ⌝ }
-    ensures short { λ r. ⌜ r ≤ room ⌝ }
-{
-    let mut scores = [0u8; limits::SECONDS];
     let mut fields = [0i64; limits::SECONDS];
     let first = places.first;
-    let settled = hours::settle(
-        hour,
+    let ran = series::answer(
+        asks,
         parts::head_of(numbers),
         parts::part(numbers, first.start, first.end),
         parts::rest(numbers, places.tail),
-        &mut scores,
+        &mut fields,
     );
-    widen(&scores, &mut fields);
-    let n = lines::shown(settled.refusal, limits::SECONDS);
-    lines::put_line(settled.refusal, &fields[..n], out)
+    let n = ran.count;
+    lines::put_line(ran.refusal, &fields[..n], out)
 }
 
-fn put_run(run: Series, numbers: &[i64], places: Places, out: &mut [u8]) -> usize
+fn put_framed(asks: Framing, numbers: &[i64], places: Places, out: &mut [u8]) -> usize
     requires { ⌜ room ≤ length (now out) ⌝ }
-    ensures place { λ r. ⌜ r ≡ length (lineText (runOf run (now (numbers .entry)) places)) ⌝ }
-    ensures text { λ r. ⌜ now (out .exit) ≡ put (now (out .entry)) 0 (lineText (runOf run (now (numbers .entry)) places)) ⌝ }
+    ensures place { λ r. ⌜ r ≡ length (frameText (framePrints asks (now (numbers .entry)) places)) ⌝ }
+    ensures text { λ r. ⌜ now (out .exit) ≡ put (now (out .entry)) 0 (frameText (framePrints asks (now (numbers .entry)) places)) ⌝ }
     ensures short { λ r. ⌜ r ≤ room ⌝ }
 {
-    match run {
-        Series::Ramp => put_ramp(numbers, out),
-        Series::DregScores => put_hour_scores(Hour::Dreg, numbers, places, out),
-        Series::EdregScores => put_hour_scores(Hour::Edreg, numbers, places, out),
-    }
-}
-
-// The line of a question without a fault.
-fn put_answer(question: Question, numbers: &[i64], places: Places, out: &mut [u8]) -> usize
-    requires { ⌜ room ≤ length (now out) ⌝ }
-    ensures place { λ r. ⌜ r ≡ length (answerText question (now (numbers .entry)) places) ⌝ }
-    ensures text { λ r. ⌜ now (out .exit) ≡ put (now (out .entry)) 0 (answerText question (now (numbers .entry)) places) ⌝ }
-    ensures short { λ r. ⌜ r ≤ room ⌝ }
-{
-    match question {
-        Question::Rule(rule) => put_rule(rule, numbers, places.tail, out),
-        Question::Hour(hour) => put_hour(hour, numbers, places, out),
-        Question::Series(run) => put_run(run, numbers, places, out),
-        Question::Frame(asks) => frames::put_frame(frames::answer(asks, numbers, places), out),
-        Question::Unknown => lines::put_alone(0, out),
-    }
+    let first = places.first;
+    let framed = frames::answer(
+        asks,
+        parts::head_of(numbers),
+        parts::head_of(parts::rest(numbers, 2)),
+        parts::part(numbers, first.start, first.end),
+        parts::rest(numbers, places.tail),
+    );
+    lines::put_frame(framed, out)
 }

@@ -17,10 +17,11 @@ use Rattle.whole.proofs.Signed.{sum, difference, opposite, times, size-product}
 use Rattle.whole.proofs.Runs.{length-listed, listed-same, getD-listed}
 use Rattle.whole.proofs.Rounding.{away-within, away-only, sign-up, sign-down}
 use Rattle.whole.proofs.Sums.{in-within, within-in, all-inside, inside-all}
-use Rattle.units.specs.Limits.{mostTransfer, isTransfer, areTransfers, secondsOfQuarter, secondsOfHour}
+use Rattle.units.specs.Limits.{mostTransfer, isTransfer, areTransfers, secondsOfQuarter, secondsOfHour, secondsOfRamp}
 use Rattle.units.specs.Refusals.{wrongLength, badTransfer}
 use Rattle.units.specs.declared.Kilowatts.{Kilowatts}
 use Rattle.ramp.specs.Ramp.{rampAt, rampOf, rampRefusal, transferAt, planOf, planRefusal, planLeft}
+use Rattle.ramp.specs.Accepted.{PlanFits}
 
 -- the ramp, without writing its 900 seconds out
 pub ramp-is : (last target : ℤ) (n : ℕ) → n ≡ secondsOfQuarter → listed (rampAt last target) 1 n ≡ rampOf last target
@@ -40,54 +41,54 @@ ramp-fit last target places e =
 
 -- ---- a ramp stays between its targets
 
-grown : (d n : ℕ) → n ≤ 300 → roundUp (d * n) 300 ≤ d
+grown : (d n : ℕ) → n ≤ secondsOfRamp → roundUp (d * n) secondsOfRamp ≤ d
 unfolding away withSign
 grown d n h =
-    let w : Within d (pos (roundUp (d * n) 300)) = away-within (pos (d * n)) 300 d (lit< tt) (mul-le-mul-left d h) in
+    let w : Within d (pos (roundUp (d * n) secondsOfRamp)) = away-within (pos (d * n)) secondsOfRamp d (lit< tt) (mul-le-mul-left d h) in
     omega arith
 
-away-minus : (m : ℕ) → away (minus m) 300 ≡ minus (roundUp m 300)
+away-minus : (m : ℕ) → away (minus m) secondsOfRamp ≡ minus (roundUp m secondsOfRamp)
 unfolding away withSign roundUp
 away-minus zero = refl
 away-minus (suc m) = refl
 
 -- on the way from last to target, `way` their difference
-between : (last target way : ℤ) (n : ℕ) → n ≤ 300 → Within mostTransfer last → Within mostTransfer target
-    → up way + (down target + up last) ≡ (up target + down last) + down way → Within mostTransfer (last +ℤ away (way *ℤ pos n) 300)
+between : (last target way : ℤ) (n : ℕ) → n ≤ secondsOfRamp → Within mostTransfer last → Within mostTransfer target
+    → up way + (down target + up last) ≡ (up target + down last) + down way → Within mostTransfer (last +ℤ away (way *ℤ pos n) secondsOfRamp)
 unfolding away withSign
-between last target (pos d) n h l t e = omega (arith, sum last (pos (roundUp (d * n) 300)), grown d n h)
+between last target (pos d) n h l t e = omega (arith, sum last (pos (roundUp (d * n) secondsOfRamp)), grown d n h)
 between last target (negsuc d) n h l t e =
-    let x = roundUp (suc d * n) 300 in
+    let x = roundUp (suc d * n) secondsOfRamp in
     rw (away-minus (suc d * n)) (omega (arith, sum last (minus x), opposite (pos x), grown (suc d) n h))
 
 pub ramp-within : (last target : ℤ) (n : ℕ) → Within mostTransfer last → Within mostTransfer target → Within mostTransfer (rampAt last target n)
 unfolding rampAt
 ramp-within last target n l t =
-    by-test (leb n 300)
-    (λ (e : leb n 300 ≡ true). rw e (between last target (target -ℤ last) n (leb-true n 300 e) l t (difference target last)))
-    (λ (e : leb n 300 ≡ false). rw e t)
+    by-test (leb n secondsOfRamp)
+    (λ (e : leb n secondsOfRamp ≡ true). rw e (between last target (target -ℤ last) n (leb-true n secondsOfRamp e) l t (difference target last)))
+    (λ (e : leb n secondsOfRamp ≡ false). rw e t)
 
 -- ---- where the ramp leads: second 300 is the target, and a ramp from a target to itself stays there
 
-same-sign : (d : ℤ) → d ≡ withSign (d *ℤ pos 300) (natAbs d)
-same-sign (pos n) = sym (sign-up (pos n *ℤ pos 300) n (omega arith))
-same-sign (negsuc n) = sym (sign-down (negsuc n *ℤ pos 300) (suc n) (omega (arith, times 300 (negsuc n))))
+same-sign : (d : ℤ) → d ≡ withSign (d *ℤ pos secondsOfRamp) (natAbs d)
+same-sign (pos n) = sym (sign-up (pos n *ℤ pos secondsOfRamp) n (omega arith))
+same-sign (negsuc n) = sym (sign-down (negsuc n *ℤ pos secondsOfRamp) (suc n) (omega (arith, times secondsOfRamp (negsuc n))))
 
-whole-part : (d : ℤ) → away (d *ℤ pos 300) 300 ≡ d
+whole-part : (d : ℤ) → away (d *ℤ pos secondsOfRamp) secondsOfRamp ≡ d
 whole-part d =
-    let n : natAbs (d *ℤ pos 300) ≡ natAbs d * 300 = size-product d (pos 300) in
-    sym (away-only (d *ℤ pos 300) d 300 (lit< tt) (record { sign = same-sign d; reaches = omega arith; least = omega arith }))
+    let n : natAbs (d *ℤ pos secondsOfRamp) ≡ natAbs d * secondsOfRamp = size-product d (pos secondsOfRamp) in
+    sym (away-only (d *ℤ pos secondsOfRamp) d secondsOfRamp (lit< tt) (record { sign = same-sign d; reaches = omega arith; least = omega arith }))
 
-pub ramp-reaches : (last target : ℤ) → rampAt last target 300 ≡ target
+pub ramp-reaches : (last target : ℤ) → rampAt last target secondsOfRamp ≡ target
 unfolding rampAt
 ramp-reaches last target = rw (whole-part (target -ℤ last)) (+ℤ-comm last (target -ℤ last) ∙ -ℤ-+ℤ-cancel target last)
 
 pub ramp-level : (z : ℤ) (n : ℕ) → rampAt z z n ≡ z
 unfolding rampAt
 ramp-level z n =
-    by-test (leb n 300)
-    (λ (e : leb n 300 ≡ true). rw (e, +ℤ-invr z, zero-*ℤ (pos n), whole-part (pos 0)) (+ℤ-idr z))
-    (λ (e : leb n 300 ≡ false). rw e)
+    by-test (leb n secondsOfRamp)
+    (λ (e : leb n secondsOfRamp ≡ true). rw (e, +ℤ-invr z, zero-*ℤ (pos n), whole-part (pos 0)) (+ℤ-idr z))
+    (λ (e : leb n secondsOfRamp ≡ false). rw e)
 
 -- ---- an hour's plan
 
@@ -104,13 +105,7 @@ transfer-within targets i e =
     ramp-within (getD targets (i / secondsOfQuarter) (pos 0)) (getD targets (i / secondsOfQuarter + 1) (pos 0)) (i % secondsOfQuarter + 1)
     (in-within (at-target targets (i / secondsOfQuarter) e)) (in-within (at-target targets (i / secondsOfQuarter + 1) e))
 
--- an hour's plan that is not refused
-pub record PlanFit (targets : List ℤ) (places : ℕ) : Type 0 where
-  pub five : length targets ≡ 5
-  pub long : places ≡ secondsOfHour
-  pub inside : areTransfers targets ≡ true
-
-pub plan-fit : (targets : List ℤ) (places : ℕ) → planRefusal targets places ≡ 0 → PlanFit targets places
+pub plan-fit : (targets : List ℤ) (places : ℕ) → planRefusal targets places ≡ 0 → PlanFits targets places
 unfolding planRefusal
 plan-fit targets places e =
     let p = all-passed ((eqb (length targets) 5, wrongLength) ∷ (eqb places secondsOfHour, wrongLength) ∷ (areTransfers targets, badTransfer) ∷ []) refl e in
@@ -148,7 +143,7 @@ plan-inside targets e =
     (λ i h. let at = plan-at targets i (omega arith) in rw at (within-in (transfer-within targets i e)))
 
 -- a plan of five targets in their range is not refused
-pub plan-granted : (targets run : List ℤ) → PlanFit targets (length run) → planLeft targets run ≡ planOf targets
+pub plan-granted : (targets run : List ℤ) → PlanFits targets (length run) → planLeft targets run ≡ planOf targets
 unfolding planLeft planRefusal
 plan-granted targets run f = rw (eq-eqb (length targets) 5 (f .five), eq-eqb (length run) secondsOfHour (f .long), f .inside)
 

@@ -1,6 +1,5 @@
 -- Document 01, "The transfer ramp" (document 000, formula 1), and its refusals.
-use Prim.Native.Nat.{ℕ, _+_, _/_, _%_, _<_}
-use mathlib.Core.Path.{_≡_}
+use Prim.Native.Nat.{ℕ, _+_, _/_, _%_}
 use mathlib.Core.List.{List, [], _∷_}
 use lib.Dec.{eqb, leb}
 use lib.IntN.{ℤ, pos, _+ℤ_, _-ℤ_, _*ℤ_}
@@ -45,14 +44,3 @@ planRefusal targets places =
 
 unfoldable pub planLeft : List ℤ → List ℤ → List ℤ
 planLeft targets run = kept (planRefusal targets (length run)) (planOf targets) run
-
--- ---- what an accepted call leaves, as the paper says it: "The ramp call fills a lent run of exactly 900"
-
--- place i has second i + 1 of formula 1
-pub record Ramped (last target : ℤ) (run : List ℤ) : Type 0 where
-  pub seconds : length run ≡ secondsOfQuarter
-  pub second : (i : ℕ) → i < secondsOfQuarter → getD run i (pos 0) ≡ rampAt last target (i + 1)
-
-pub record Planned (targets run : List ℤ) : Type 0 where
-  pub seconds : length run ≡ secondsOfHour
-  pub second : (i : ℕ) → i < secondsOfHour → getD run i (pos 0) ≡ transferAt targets i

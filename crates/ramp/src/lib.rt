@@ -1,15 +1,19 @@
 // The transfer ramp (document 000, formula 1): what an E-dReg battery transfers in each second of a quarter.
 ghost use mathlib.Core.Path.{_≡_};
-ghost use Prim.Native.Nat.{ℕ, _≤_, _<_};
+ghost use Prim.Native.Nat.{ℕ, _*_, _≤_, _<_};
+ghost use lib.IntN.{pos, _*ℤ_};
 ghost use lib.ListN.{length};
-ghost use Rattle.whole.specs.Whole.{Within};
-ghost use Rattle.units.specs.Limits.{mostTransfer, secondsOfQuarter};
+ghost use Rattle.whole.specs.Whole.{Within, away};
+ghost use Rattle.units.specs.Limits.{mostTransfer, secondsOfQuarter, secondsOfRamp};
 ghost use Rattle.units.specs.Units.{kilowatts};
 ghost use Rattle.ramp.specs.Ramp.{rampAt, rampOf, rampRefusal, rampLeft, planOf, planRefusal, planLeft};
 use units::Kilowatts;
 use units::limits;
 
 const LEAST_TRANSFER: i64 = -limits::TRANSFER;
+
+// What a second's part of the way is divided by.
+const RAMP: i64 = limits::RAMP as i64;
 
 // Fills a run of 900 with a quarter's seconds 1 to 900; a refused run stays as it was.
 pub fn ramp(last: Kilowatts, target: Kilowatts, seconds: &mut [i64]) -> u8
@@ -24,8 +28,8 @@ pub fn ramp(last: Kilowatts, target: Kilowatts, seconds: &mut [i64]) -> u8
     k
 }
 
-// Fills a run of 3,600 with an hour's transfers by its five targets: the one before the hour and those of its quarters. A refused run stays as
-// it was.
+// Fills a run of 3,600 with an hour's transfers by its five targets: the one before the hour and those of its quarters.
+// A refused run stays as it was.
 pub fn plan(targets: &[i64], seconds: &mut [i64]) -> u8
     ensures { λ r. ⌜ (r ≡ planRefusal (now (targets .entry)) (length (now (seconds .entry)))) × (now (seconds .exit) ≡ planLeft (now (targets .entry)) (now (seconds .entry))) ⌝ }
 {
@@ -66,6 +70,35 @@ fn fill(last: i64, target: i64, seconds: &mut [i64])
     }
 }
 
+// How many seconds move: none where the target stays what it was.
+fn moving(last: i64, target: i64) -> usize
+    ensures { λ r. ⌜ (r ≤ secondsOfRamp) × ((n : ℕ) → r < n → rampAt last target n ≡ target) ⌝ }
+{
+    if last == target {
+        return 0;
+    }
+    limits::RAMP
+}
+
+// Second n of the quarter, while the ramp lasts.
+fn ramping(last: i64, target: i64, n: usize) -> i64
+    requires { ⌜ Within mostTransfer last × (Within mostTransfer target × (n ≤ secondsOfRamp)) ⌝ }
+    ensures { λ r. ⌜ r ≡ rampAt last target n ⌝ }
+{
+    if last < target {
+        return last + ramped(target - last, n);
+    }
+    last - ramped(last - target, n)
+}
+
+// How far second n is from the last target, where the new one is so far from it.
+fn ramped(apart: i64, n: usize) -> i64
+    requires { ⌜ Within (2 * mostTransfer) apart × (n ≤ secondsOfRamp) ⌝ }
+    ensures { λ r. ⌜ r ≡ away (apart *ℤ pos n) secondsOfRamp ⌝ }
+{
+    whole::away(apart * (n as i64), RAMP)
+}
+
 // 1, 10; 0 lets the plan through.
 fn plan_refusal(targets: &[i64], places: usize) -> u8
     ensures { λ r. ⌜ r ≡ planRefusal (now (targets .entry)) places ⌝ }
@@ -92,22 +125,4 @@ fn fill_hour(targets: &[i64], seconds: &mut [i64])
         fill(last, target, &mut seconds[start..end]);
         q = next;
     }
-}
-
-// How many seconds move: none where the target stays what it was.
-fn moving(last: i64, target: i64) -> usize
-    ensures { λ r. ⌜ (r ≤ 300) × ((n : ℕ) → r < n → rampAt last target n ≡ target) ⌝ }
-{
-    if last == target {
-        return 0;
-    }
-    300
-}
-
-// Second n of the quarter, while the ramp lasts.
-fn ramping(last: i64, target: i64, n: usize) -> i64
-    requires { ⌜ Within mostTransfer last × (Within mostTransfer target × (n ≤ 300)) ⌝ }
-    ensures { λ r. ⌜ r ≡ rampAt last target n ⌝ }
-{
-    last + whole::away((target - last) * (n as i64), 300)
 }

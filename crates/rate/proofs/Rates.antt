@@ -13,8 +13,10 @@ use Rattle.whole.proofs.Choice.{by-test, all-passed}
 use Rattle.whole.proofs.Folds.{all-at, all-of}
 use Rattle.units.specs.Refusals.{wrongLength, badReading}
 use Rattle.units.specs.Limits.{mostScore, secondsOfHour}
-use Rattle.rate.specs.Rolling.{windows, largest, smallest, smallestFrom, rolling, isScoreAt, areScores, scoresRefusal, hourlyRate, carried, rateAfter}
+use Rattle.rate.specs.Rolling.{windows, largest, smallest, smallestFrom, rolling, isScoreAt, areScores, scoresRefusal, hourlyRate}
+use Rattle.rate.specs.Inner.{carried, rateAfter}
 use Rattle.rate.specs.declared.Rated.{Rated}
+use Rattle.rate.specs.Accepted.{ScoresFit}
 
 -- ---- one pass finds the rolling rates
 
@@ -120,28 +122,24 @@ from-100 a b c (x ∷ xs) ha hb hc l e =
 
 -- ---- the hourly rate
 
-pub record Fit (scores : List ℕ) : Type 0 where
-  pub long : length scores ≡ secondsOfHour
-  pub small : areScores scores ≡ true
-
 module _ (scores : List ℕ) where
-  pub scores-fit : scoresRefusal scores ≡ 0 → Fit scores
+  pub scores-fit : scoresRefusal scores ≡ 0 → ScoresFit scores
   unfolding scoresRefusal
   scores-fit e =
       let p = all-passed ((eqb (length scores) secondsOfHour, wrongLength) ∷ (areScores scores, badReading) ∷ []) refl e in
       record { long = eqb-true (length scores) secondsOfHour (p .0); small = p .1 .0 }
 
-  pub fit-scores : Fit scores → scoresRefusal scores ≡ 0
+  pub fit-scores : ScoresFit scores → scoresRefusal scores ≡ 0
   unfolding scoresRefusal
   fit-scores f = rw (eq-eqb (length scores) secondsOfHour (f .long), f .small)
 
   -- the smallest rolling rate, as one pass finds it
-  pub rate-carried : Fit scores → smallestFrom mostScore (carried 0 0 0 scores) ≡ smallest (rolling [] scores)
+  pub rate-carried : ScoresFit scores → smallestFrom mostScore (carried 0 0 0 scores) ≡ smallest (rolling [] scores)
   rate-carried f =
       let l = f .long in
       rw (rolling-carried [] scores) (from-100 0 0 0 scores zero-le zero-le zero-le (omega arith) (f .small))
 
-  pub rate-granted : Fit scores → hourlyRate scores ≡ record { refusal = 0; rate = smallest (rolling [] scores) }
+  pub rate-granted : ScoresFit scores → hourlyRate scores ≡ record { refusal = 0; rate = smallest (rolling [] scores) }
   unfolding hourlyRate
   rate-granted f = rw (eq-eqb _ 0 (fit-scores f))
 

@@ -1,2 +1,4 @@
 -- An hour's rate by its scores.
 pub mod Rolling
+pub mod Accepted
+pub mod Inner

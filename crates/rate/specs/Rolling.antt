@@ -4,7 +4,7 @@ use mathlib.Core.Bool.{Bool}
 use mathlib.Core.List.{List, [], _∷_, map, reverse}
 use lib.Dec.{eqb, leb}
 use lib.ListN.{length, take, getD}
-use Rattle.whole.specs.Choice.{pick, inOrder}
+use Rattle.whole.specs.Choice.{inOrder, kept}
 use Rattle.whole.specs.Folds.{allTo}
 use Rattle.units.specs.Refusals.{wrongLength, badReading}
 use Rattle.units.specs.Limits.{mostScore, secondsOfHour}
@@ -43,19 +43,11 @@ areScores scores = allTo (length scores) (isScoreAt scores)
 unfoldable pub scoresRefusal : List ℕ → ℕ
 scoresRefusal scores = inOrder ((eqb (length scores) secondsOfHour, wrongLength) ∷ (areScores scores, badReading) ∷ [])
 
+abbrev pub noRate : ℕ → Rated
+noRate k = record { refusal = k; rate = 0 }
+
 -- the smallest of the 3,600 rolling rates
 unfoldable pub hourlyRate : List ℕ → Rated
 hourlyRate scores =
     let k = scoresRefusal scores in
-    pick (eqb k 0) (record { refusal = 0; rate = smallest (rolling [] scores) }) (record { refusal = k; rate = 0 })
-
--- the rolling rates as one pass finds them, from the last three scores alone, newest first, a missing one as 0
-abbrev pub carried : ℕ → ℕ → ℕ → List ℕ → List ℕ
-carried a b c [] = []
-carried a b c (x ∷ xs) = max x (max a (max b c)) ∷ carried x a b xs
-
-unfoldable pub rateAfter : ℕ → ℕ → ℕ → List ℕ → Rated
-rateAfter last second third scores =
-    pick (areScores scores)
-    (record { refusal = 0; rate = smallestFrom mostScore (carried last second third scores) })
-    (record { refusal = badReading; rate = 0 })
+    kept k (record { refusal = 0; rate = smallest (rolling [] scores) }) (noRate k)

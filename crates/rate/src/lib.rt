@@ -1,7 +1,8 @@
 // An hour's rate by its scores.
 ghost use mathlib.Core.Path.{_≡_};
 ghost use Prim.Native.Nat.{min, max};
-ghost use Rattle.rate.specs.Rolling.{hourlyRate, rateAfter};
+ghost use Rattle.rate.specs.Rolling.{hourlyRate};
+ghost use Rattle.rate.specs.Inner.{rateAfter};
 use units::limits;
 use units::refusals;
 
@@ -24,8 +25,8 @@ pub fn hourly_rate(scores: &[u8]) -> Rated
     }
 }
 
-// One pass, after the three scores before, newest first. It carries the last three scores, the smallest rolling rate so far, and whether every
-// score so far is one.
+// One pass, after the three scores before, newest first. It carries the last three scores, the smallest rolling rate so
+// far, and whether every score so far is one.
 fn rate_after(last: u8, second: u8, third: u8, scores: &[u8]) -> Rated
     ensures { λ r. ⌜ r ≡ rateAfter last second third (now (scores .entry)) ⌝ }
 {
@@ -56,6 +57,12 @@ fn rate_after(last: u8, second: u8, third: u8, scores: &[u8]) -> Rated
     }
 }
 
+fn smaller(a: u8, b: u8) -> u8
+    ensures { λ r. ⌜ r ≡ min a b ⌝ }
+{
+    if b < a { b } else { a }
+}
+
 // The largest of a window's four scores.
 fn largest_of(x: u8, a: u8, b: u8, c: u8) -> u8
     ensures { λ r. ⌜ r ≡ max x (max a (max b c)) ⌝ }
@@ -67,10 +74,4 @@ fn larger(a: u8, b: u8) -> u8
     ensures { λ r. ⌜ r ≡ max a b ⌝ }
 {
     if b < a { a } else { b }
-}
-
-fn smaller(a: u8, b: u8) -> u8
-    ensures { λ r. ⌜ r ≡ min a b ⌝ }
-{
-    if b < a { b } else { a }
 }

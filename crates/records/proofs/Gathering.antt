@@ -15,9 +15,10 @@ use Rattle.whole.proofs.Choice.{by-test}
 use Rattle.units.specs.Limits.{mostBands}
 use Rattle.records.specs.declared.Band.{Band}
 use Rattle.records.specs.declared.Columns.{Columns}
+use Rattle.bands.specs.declared.Factored.{Factored}
 use Rattle.bands.specs.Bands.{bandsFit, bandsRefusal, factorRefusal, withFactor, factorAnswer}
 use Rattle.records.specs.Records.{thresholdsOf, factorsOf, recordsRefusal, recordsAnswer}
-use Rattle.records.specs.Gathered.{none, next, gathered, refusalIn, gatheredAnswer}
+use Rattle.records.specs.Inner.{none, next, gathered, refusalIn, gatheredAnswer}
 
 -- the filled places of a column with one number more
 one-more : (l : List ℤ) (n : ℕ) (x : ℤ) (xs : List ℤ) → n < length l → take (n + 1) (set l n x) ++ xs ≡ take n l ++ (x ∷ xs)
@@ -78,29 +79,28 @@ module _ (bands : List Band) where
   columns = gathered none bands
 
   abbrev Same : Type 0
-  Same = (refusalIn columns ≡ recordsRefusal bands) × ((rate : ℕ) → gatheredAnswer columns rate ≡ recordsAnswer bands rate)
+  Same = (rate : ℕ) → gatheredAnswer columns rate ≡ recordsAnswer bands rate
 
   same-few : length bands ≤ mostBands → Same
-  unfolding none refusalIn recordsRefusal gatheredAnswer recordsAnswer
-  same-few h =
+  unfolding none gatheredAnswer recordsAnswer
+  same-few h rate =
       let r = holds none bands refl refl (omega arith) in
       let e : leb (columns .count) mostBands ≡ true = le-leb (columns .count) mostBands (omega (arith, r .count)) in
-      (rw (e, r .thresholds, r .factors), λ rate. rw (e, r .thresholds, r .factors))
+      rw (e, r .thresholds, r .factors)
 
   same-many : mostBands < length bands → Same
-  unfolding none refusalIn recordsRefusal gatheredAnswer recordsAnswer bandsRefusal factorAnswer factorRefusal withFactor
-  same-many h =
+  unfolding none gatheredAnswer recordsAnswer factorAnswer factorRefusal withFactor
+  same-many h rate =
       let n : columns .count ≡ mostBands + 1 = too-many none bands (omega arith) (omega arith) in
       let u : bandsFit (thresholdsOf bands) (factorsOf bands) ≡ false = many-unfit (thresholdsOf bands) (factorsOf bands) (simp length-map h) in
-      (rw (n, u), λ rate. rw (n, u))
+      rw (n, u)
 
-  same : Same
-  same =
+  pub answer-in : Same
+  answer-in =
       by-test (leb (length bands) mostBands) (λ (e : leb (length bands) mostBands ≡ true). same-few (leb-true (length bands) mostBands e))
       (λ (e : leb (length bands) mostBands ≡ false). same-many (leb-false (length bands) mostBands e))
 
+  -- the number alone, by the answer at rate 0
   pub refusal-in : refusalIn (gathered none bands) ≡ recordsRefusal bands
-  refusal-in = same .0
-
-  pub answer-in : (rate : ℕ) → gatheredAnswer (gathered none bands) rate ≡ recordsAnswer bands rate
-  answer-in = same .1
+  unfolding refusalIn recordsRefusal recordsAnswer bandsRefusal factorAnswer factorRefusal withFactor
+  refusal-in = ap (λ (x : Factored). x .refusal) (answer-in 0)

@@ -21,7 +21,7 @@ use denote.Steps.{nothing}
 use denote.Triple.Statement.{Contract}
 use denote.Triple.Spec.{tripleOf}
 use denote.Triple.Clauses.{ensured, lasts}
-use Rattle.records.specs.Gathered.{none, gathered}
+use Rattle.records.specs.Inner.{none, gathered}
 use Rattle.records.specs.declared.Band.{Band}
 use Rattle.records.specs.declared.Columns.{Columns}
 use Rattle.records.proofs.Band as B

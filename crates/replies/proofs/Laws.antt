@@ -1,4 +1,4 @@
--- What a chunk comes to, from what the calls answer. By computing. Assumes nothing.
+-- What a chunk and the input's end come to, from what the calls answer. By computing. Assumes nothing.
 use Prim.Native.Nat.{ℕ, _≤_, min}
 use mathlib.Core.Path.{_≡_, refl, sym, _∙_}
 use mathlib.Core.Bool.{true, false}
@@ -13,12 +13,13 @@ use Rattle.whole.proofs.Choice.{by-test, and-both}
 use Rattle.text.specs.Text.{put}
 use Rattle.asked.specs.Inner as asking
 use Rattle.asked.specs.Asking.{mostNumbers}
-use Rattle.asked.specs.Inner.{readOf, readRun}
+use Rattle.asked.specs.Inner.{readOf, readRun, endOf, endRun}
 use Rattle.asked.specs.declared.State.{State}
 use Rattle.asked.specs.declared.Reached.{Reached}
 use Rattle.question.specs.Inner.{room, answered, printed}
 use Rattle.question.specs.declared.Answered.{Answered}
-use Rattle.replies.specs.Inner.{tellText, runsFitIn, replyChunk, repliedOf, repliedRun, repliedOut}
+use Rattle.replies.specs.Inner.{reachedText, repliedTo, runsFitIn, repliedOf, repliedRun, repliedOut, lastReplied, lastRepliedRun, lastRepliedOut}
+use Rattle.replies.specs.declared.Replied.{Replied}
 
 -- no more than there are
 pub take-least : {A : Type 0} (n : ℕ) (run : List A) → take (min n (length run)) run ≡ take n run
@@ -41,11 +42,17 @@ pub numbers-fit : (run : List ℤ) (out : ℕ) → runsFitIn (length run) out �
 unfolding runsFitIn
 numbers-fit run out t = and-both (eqb (length run) mostNumbers) (leb room out) t .0
 
--- a chunk where the runs fit
-pub fed : (state : State) (chunk : List ℕ) (run left : List ℤ) (out said : List ℕ) (reached : Reached) (written : ℕ) → runsFitIn (length run) (length out) ≡ true
-    → reached ≡ readOf state chunk run → left ≡ readRun state chunk run
-    → written ≡ length (tellText (reached .ended) (reached .asked) left) → said ≡ put out 0 (tellText (reached .ended) (reached .asked) left)
-    → (record { refusal = 0; state = reached .state; taken = reached .taken; written = written } ≡ repliedOf state chunk run out)
-    × ((left ≡ repliedRun state chunk run out) × (said ≡ repliedOut state chunk run out))
-unfolding repliedOf repliedRun repliedOut replyChunk readOf readRun
-fed state chunk run left out said reached written t r l w o = rw (t, w, o, l, r, numbers-fit run (length out) t) (refl, (refl, refl))
+-- where the runs fit: what was reached and left, and what is answered of it
+module _ (state : State) (run left : List ℤ) (out said : List ℕ) (reached : Reached) (answer : Replied) (t : runsFitIn (length run) (length out) ≡ true)
+    (a : answer ≡ repliedTo reached left) (o : said ≡ put out 0 (reachedText reached left)) where
+  -- of a chunk
+  pub fed : (chunk : List ℕ) → reached ≡ readOf state chunk run → left ≡ readRun state chunk run
+      → (answer ≡ repliedOf state chunk run out) × ((left ≡ repliedRun state chunk run out) × (said ≡ repliedOut state chunk run out))
+  unfolding repliedOf repliedRun repliedOut readOf readRun
+  fed chunk r l = rw (t, a, o, l, r, numbers-fit run (length out) t) (refl, (refl, refl))
+
+  -- of the input's end
+  pub finished : reached ≡ endOf state run → left ≡ endRun state run
+      → (answer ≡ lastReplied state run out) × ((left ≡ lastRepliedRun state run out) × (said ≡ lastRepliedOut state run out))
+  unfolding lastReplied lastRepliedRun lastRepliedOut endOf endRun
+  finished r l = rw (t, a, o, l, r, numbers-fit run (length out) t) (refl, (refl, refl))

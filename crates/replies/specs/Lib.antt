@@ -1,2 +1,2 @@
--- What the program `desk` does with a chunk.
+-- What the program `desk` does with a chunk, and at the input's end.
 pub mod Inner

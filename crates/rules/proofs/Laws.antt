@@ -2,19 +2,18 @@
 use Prim.Native.Nat.{ℕ, _≤_, _<_, _%_}
 use mathlib.Core.Path.{_≡_, refl}
 use mathlib.Core.Bool.{true, false}
-use mathlib.Core.List.{List}
+use mathlib.Core.List.{List, [], _∷_}
 use native.Mathlib.Omega.{arith}
-use lib.Dec.{eqb}
 use lib.IntN.{ℤ, pos}
 use lib.ListN.{length}
 use borrow.Author.Tests.{ne-eqb}
-use Rattle.whole.specs.Choice.{unless}
+use Rattle.whole.specs.Choice.{inOrder}
 use Rattle.whole.proofs.Choice.{by-test}
 use Rattle.whole.proofs.Runs.{length-listed}
 use Rattle.units.specs.Limits.{secondsOfHour}
-use Rattle.units.specs.Refusals.{wrongLength}
+use Rattle.units.specs.Refusals.{wrongLength, badBands}
 use Rattle.rate.specs.Rolling.{scoresRefusal, hourlyRate}
-use Rattle.bands.specs.Bands.{bandsFit, bandsRefusal, factorRefusal, withFactor, factorAnswer}
+use Rattle.bands.specs.Bands.{bandsFit, factorRefusal, withFactor, factorAnswer}
 use Rattle.bands.proofs.Laws.{bands-fit}
 use Rattle.numbers.specs.Numbers.{number, byteOf, column}
 use Rattle.words.specs.declared.Rule.{Rule}
@@ -23,16 +22,16 @@ use Rattle.rules.specs.Rules.{scoresIn, pairs, arePairs, factorIn, kilow
 
 -- more than 16 records are refused, whatever they say
 pub too-many : (thresholds factors : List ℤ) (rate : ℕ) → 16 < length thresholds → factorAnswer thresholds factors rate ≡ record { refusal = 5; factor = pos 0 }
-unfolding factorAnswer withFactor factorRefusal bandsRefusal
+unfolding factorAnswer withFactor factorRefusal
 too-many ts fs rate h =
     by-test (bandsFit ts fs) (λ (t : bandsFit ts fs ≡ true). let b = bands-fit ts fs t in absurd (omega arith)) (λ (t : bandsFit ts fs ≡ false). rw t)
 
 -- a lookup of the rate 0 is refused for the bands alone
-by-columns : (thresholds factors : List ℤ) → factorAnswer thresholds factors 0 .refusal ≡ bandsRefusal thresholds factors
-unfolding factorAnswer withFactor factorRefusal bandsRefusal
+by-columns : (thresholds factors : List ℤ) → factorAnswer thresholds factors 0 .refusal ≡ inOrder ((bandsFit thresholds factors, badBands) ∷ [])
+unfolding factorAnswer withFactor factorRefusal
 by-columns ts fs = refl
 
-pub by-bands : (n : List ℤ) → factorIn n 0 .refusal ≡ unless (arePairs n) wrongLength (bandsRefusal (column n 0 (pairs n)) (column n 1 (pairs n)))
+pub by-bands : (n : List ℤ) → factorIn n 0 .refusal ≡ inOrder ((arePairs n, wrongLength) ∷ (bandsFit (column n 0 (pairs n)) (column n 1 (pairs n)), badBands) ∷ [])
 unfolding factorIn
 by-bands n = by-test (arePairs n) (λ (t : arePairs n ≡ true). rw t (by-columns _ _)) (λ (t : arePairs n ≡ false). rw t)
 

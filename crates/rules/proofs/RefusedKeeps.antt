@@ -19,11 +19,13 @@ use Rattle.bands.specs.Bands.{factorRefusal, factorAnswer}
 use Rattle.fees.specs.Fees.{chargeRefusal, feeAnswer, qualityRefusal, qualityAnswer, energyRefusal, energyAnswer, chargeOf, noCharge}
 use Rattle.loss.specs.Loss.{lossRefusal, lossAnswer, added}
 use Rattle.numbers.specs.Numbers.{number, byteOf, column}
-use Rattle.words.specs.Replies.{Reply, reply, boxed}
+use Rattle.words.specs.Replies.{Reply, reply}
+use Rattle.words.specs.Inner.{boxed}
 use Rattle.words.specs.declared.Few.{Few}
 use Rattle.words.specs.declared.Rule.{Rule}
 use Rattle.words.specs.declared.Rule.the-variants.{Kilowatts, Curve, Score, Rate, Bands, Factor, Fee, Quality, Energy, Loss}
-use Rattle.rules.specs.Rules.{scoresIn, pairs, arePairs, factorIn, kilowattsReply, curveReply, scoreReply, rateReply, bandsReply, factorReply, feeReply, qualityReply, energyReply, lossReply, ruleReply, fieldCount}
+use Rattle.rules.specs.Rules.{scoresIn, pairs, arePairs, factorIn, kilowattsReply, curveReply, scoreReply, rateReply, bandsReply, factorReply, feeReply, qualityReply, energyReply, lossReply, ruleReply}
+use Rattle.rules.specs.Inner.{fieldCount}
 use Rattle.rules.proofs.answer.Reads as answer
 use Rattle.rules.proofs.answer.Kinds as answer-kinds
 

@@ -1,2 +1,3 @@
 -- The questions about one rule.
 pub mod Rules
+pub mod Inner

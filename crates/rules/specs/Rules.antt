@@ -4,21 +4,21 @@ use mathlib.Core.Bool.{Bool}
 use mathlib.Core.List.{List, [], _∷_}
 use lib.Dec.{eqb}
 use lib.IntN.{ℤ, pos}
-use lib.ListN.{length, take, drop, replicate}
-use Rattle.whole.specs.Choice.{pick, unless}
+use lib.ListN.{length, take, drop}
+use Rattle.whole.specs.Choice.{pick, inOrder}
 use Rattle.whole.specs.Runs.{listed}
-use Rattle.units.specs.Refusals.{wrongLength}
+use Rattle.units.specs.Refusals.{wrongLength, badBands}
 use Rattle.units.specs.Units.{kilowatts, megawatts, millihertz, dollars, inKilowatts}
 use Rattle.curve.specs.Curve.{curveAt}
 use Rattle.score.specs.Score.{secondScore}
 use Rattle.rate.specs.Rolling.{hourlyRate}
-use Rattle.bands.specs.Bands.{bandsRefusal, factorAnswer}
+use Rattle.bands.specs.Bands.{bandsFit, factorAnswer}
 use Rattle.bands.specs.declared.Factored.{Factored}
 use Rattle.fees.specs.Fees.{feeAnswer, qualityAnswer, energyAnswer}
+use Rattle.fees.specs.declared.Charged.{Charged}
 use Rattle.loss.specs.Loss.{lossAnswer}
 use Rattle.numbers.specs.Numbers.{number, byteOf, column}
 use Rattle.words.specs.Replies.{Reply, reply}
-use Rattle.words.specs.declared.Few.{Few}
 use Rattle.words.specs.declared.Rule.{Rule}
 use Rattle.words.specs.declared.Rule.the-variants.{Kilowatts, Curve, Score, Rate, Bands, Factor, Fee, Quality, Energy, Loss}
 
@@ -53,7 +53,7 @@ arePairs n = eqb (length n % 2) 0
 
 -- pairs THRESHOLD FACTOR: refusal
 unfoldable pub bandsReply : List ℤ → Reply
-bandsReply n = reply (unless (arePairs n) wrongLength (bandsRefusal (column n 0 (pairs n)) (column n 1 (pairs n)))) []
+bandsReply n = reply (inOrder ((arePairs n, wrongLength) ∷ (bandsFit (column n 0 (pairs n)) (column n 1 (pairs n)), badBands) ∷ [])) []
 
 -- the factor of a rate by pairs
 unfoldable pub factorIn : List ℤ → ℕ → Factored
@@ -64,17 +64,21 @@ factorIn n rate =
 unfoldable pub factorReply : List ℤ → List ℤ → Reply
 factorReply n t = let a = factorIn t (byteOf (number n 0)) in reply (a .refusal) (a .factor ∷ [])
 
--- PRICE CAPACITY: refusal, dollars
+-- a fee's answer: refusal, dollars
+abbrev pub chargeReply : Charged → Reply
+chargeReply a = reply (a .refusal) (a .dollars .0 ∷ [])
+
+-- PRICE CAPACITY
 unfoldable pub feeReply : List ℤ → Reply
-feeReply n = let a = feeAnswer (number n 0) (kilowatts (number n 1)) in reply (a .refusal) (a .dollars .0 ∷ [])
+feeReply n = chargeReply (feeAnswer (number n 0) (kilowatts (number n 1)))
 
--- CAPACITY-FEE PERFORMANCE-FEE FACTOR: refusal, dollars
+-- CAPACITY-FEE PERFORMANCE-FEE FACTOR
 unfoldable pub qualityReply : List ℤ → Reply
-qualityReply n = let a = qualityAnswer (dollars (number n 0)) (dollars (number n 1)) (number n 2) in reply (a .refusal) (a .dollars .0 ∷ [])
+qualityReply n = chargeReply (qualityAnswer (dollars (number n 0)) (dollars (number n 1)) (number n 2))
 
--- DISCHARGE CHARGE, the 4 quarter targets, 3,600 powers: refusal, dollars
+-- DISCHARGE CHARGE, the 4 quarter targets, 3,600 powers
 unfoldable pub energyReply : List ℤ → List ℤ → Reply
-energyReply n t = let a = energyAnswer t (take 4 (drop 2 n)) (number n 0) (number n 1) in reply (a .refusal) (a .dollars .0 ∷ [])
+energyReply n t = chargeReply (energyAnswer t (take 4 (drop 2 n)) (number n 0) (number n 1))
 
 -- CHARGED DISCHARGED VOLTAGE COST: refusal, basic, excess, total
 unfoldable pub lossReply : List ℤ → Reply
@@ -94,20 +98,3 @@ ruleReply Fee n t = feeReply n
 ruleReply Quality n t = qualityReply n
 ruleReply Energy n t = energyReply n t
 ruleReply Loss n t = lossReply n
-
--- how many fields its answer has
-abbrev pub fieldCount : Rule → ℕ
-fieldCount Kilowatts = 1
-fieldCount Curve = 2
-fieldCount Score = 1
-fieldCount Rate = 1
-fieldCount Bands = 0
-fieldCount Factor = 1
-fieldCount Fee = 1
-fieldCount Quality = 1
-fieldCount Energy = 1
-fieldCount Loss = 3
-
--- at most three of them as the code holds them
-abbrev pub few : ℕ → ℕ → ℤ → ℤ → ℤ → Few
-few refusal count a b c = record { refusal = refusal; count = count; values = a ∷ b ∷ c ∷ replicate 9 (pos 0) }

@@ -5,11 +5,13 @@ ghost use mathlib.Core.Path.{_≡_};
 ghost use lib.ListN.{length};
 ghost use Rattle.units.specs.Limits.{secondsOfHour};
 ghost use Rattle.bands.specs.Bands.{factorAnswer};
-ghost use Rattle.words.specs.Replies.{boxed};
+ghost use Rattle.words.specs.Inner.{boxed};
 ghost use Rattle.numbers.specs.Numbers.{column};
-ghost use Rattle.rules.specs.Rules.{few, scoresIn, factorIn, kilowattsReply, curveReply, scoreReply, rateReply, bandsReply};
-ghost use Rattle.rules.specs.Rules.{factorReply, feeReply, qualityReply, energyReply, lossReply, ruleReply};
+ghost use Rattle.rules.specs.Rules.{scoresIn, factorIn, kilowattsReply, curveReply, scoreReply, rateReply, bandsReply};
+ghost use Rattle.rules.specs.Inner.{few};
+ghost use Rattle.rules.specs.Rules.{factorReply, chargeReply, feeReply, qualityReply, energyReply, lossReply, ruleReply};
 use bands::Factored;
+use fees::Charged;
 use units::Dollars;
 use units::Kilowatts;
 use units::Megawatts;
@@ -18,6 +20,33 @@ use units::limits;
 use units::refusals;
 use words::Few;
 use words::Rule;
+
+// THE FAMILY: the answer to a question about one rule, by its single numbers and by those after them; 1 where those
+// after them are not as many as the rule takes.
+pub fn answer(rule: Rule, head: [i64; 12], tail: &[i64]) -> Few
+    ensures { λ r. ⌜ r ≡ boxed (ruleReply rule head (now (tail .entry))) ⌝ }
+{
+    match rule {
+        Rule::Kilowatts => kilowatts(head),
+        Rule::Curve => curve(head),
+        Rule::Score => score(head),
+        Rule::Rate => rate(tail),
+        Rule::Bands => bands(tail),
+        Rule::Factor => factor(head, tail),
+        Rule::Fee => fee(head),
+        Rule::Quality => quality(head),
+        Rule::Energy => energy(head, tail),
+        Rule::Loss => loss(head),
+    }
+}
+
+fn kilowatts(head: [i64; 12]) -> Few
+    ensures { λ r. ⌜ r ≡ boxed (kilowattsReply head) ⌝ }
+{
+    let converted = units::to_kilowatts(Megawatts(head[0]));
+    let power = converted.power;
+    few(converted.refusal, 1, power.0, 0, 0)
+}
 
 // An answer of at most three fields: the refusal's number, the fields, zeros after them.
 fn few(refusal: u8, count: usize, a: i64, b: i64, c: i64) -> Few
@@ -28,14 +57,6 @@ fn few(refusal: u8, count: usize, a: i64, b: i64, c: i64) -> Few
         count,
         values: [a, b, c, 0, 0, 0, 0, 0, 0, 0, 0, 0],
     }
-}
-
-fn kilowatts(head: [i64; 12]) -> Few
-    ensures { λ r. ⌜ r ≡ boxed (kilowattsReply head) ⌝ }
-{
-    let converted = units::to_kilowatts(Megawatts(head[0]));
-    let power = converted.power;
-    few(converted.refusal, 1, power.0, 0, 0)
 }
 
 fn curve(head: [i64; 12]) -> Few
@@ -57,40 +78,13 @@ fn score(head: [i64; 12]) -> Few
     few(scored.refusal, 1, scored.score as i64, 0, 0)
 }
 
-fn fee(head: [i64; 12]) -> Few
-    ensures { λ r. ⌜ r ≡ boxed (feeReply head) ⌝ }
+fn rate(tail: &[i64]) -> Few
+    ensures { λ r. ⌜ r ≡ boxed (rateReply (now (tail .entry))) ⌝ }
 {
-    let charged = fees::fee(head[0], Kilowatts(head[1]));
-    let dollars = charged.dollars;
-    few(charged.refusal, 1, dollars.0, 0, 0)
-}
-
-fn quality(head: [i64; 12]) -> Few
-    ensures { λ r. ⌜ r ≡ boxed (qualityReply head) ⌝ }
-{
-    let charged = fees::quality_part(Dollars(head[0]), Dollars(head[1]), head[2]);
-    let dollars = charged.dollars;
-    few(charged.refusal, 1, dollars.0, 0, 0)
-}
-
-fn loss(head: [i64; 12]) -> Few
-    ensures { λ r. ⌜ r ≡ boxed (lossReply head) ⌝ }
-{
-    let loss = loss::loss_fee(head[0], head[1], head[2], head[3]);
-    let basic = loss.basic;
-    let excess = loss.excess;
-    let total = loss.total;
-    few(loss.refusal, 3, basic.0, excess.0, total.0)
-}
-
-fn fill_scores(numbers: &[i64], scores: &mut [u8])
-    ensures { λ _. ⌜ now (scores .exit) ≡ scoresIn (now (numbers .entry)) (length (now (scores .entry))) ⌝ }
-{
-    let mut i = 0;
-    while i < scores.len() {
-        scores[i] = numbers::byte_of(whole::at(numbers, i));
-        i += 1;
+    if tail.len() != limits::SECONDS {
+        return few(refusals::WRONG_LENGTH, 1, 0, 0, 0);
     }
+    rated(tail)
 }
 
 // The rate of 3,600 scores.
@@ -104,35 +98,21 @@ fn rated(tail: &[i64]) -> Few
     few(rated.refusal, 1, rated.rate as i64, 0, 0)
 }
 
-fn rate(tail: &[i64]) -> Few
-    ensures { λ r. ⌜ r ≡ boxed (rateReply (now (tail .entry))) ⌝ }
+fn fill_scores(numbers: &[i64], scores: &mut [u8])
+    ensures { λ _. ⌜ now (scores .exit) ≡ scoresIn (now (numbers .entry)) (length (now (scores .entry))) ⌝ }
 {
-    if tail.len() != limits::SECONDS {
-        return few(refusals::WRONG_LENGTH, 1, 0, 0, 0);
+    let mut i = 0;
+    while i < scores.len() {
+        scores[i] = numbers::byte_of(whole::at(numbers, i));
+        i += 1;
     }
-    rated(tail)
 }
 
-fn energy(head: [i64; 12], tail: &[i64]) -> Few
-    ensures { λ r. ⌜ r ≡ boxed (energyReply head (now (tail .entry))) ⌝ }
+fn bands(tail: &[i64]) -> Few
+    ensures { λ r. ⌜ r ≡ boxed (bandsReply (now (tail .entry))) ⌝ }
 {
-    let discharge = head[0];
-    let charge = head[1];
-    let charged = fees::energy_fee(tail, &head[2..6], discharge, charge);
-    let dollars = charged.dollars;
-    few(charged.refusal, 1, dollars.0, 0, 0)
-}
-
-// The factor of a rate by n pairs.
-fn found(numbers: &[i64], n: usize, rate: u8) -> Factored
-    requires { ⌜ n ≤ 100 ⌝ }
-    ensures { λ r. ⌜ r ≡ factorAnswer (column (now (numbers .entry)) 0 n) (column (now (numbers .entry)) 1 n) rate ⌝ }
-{
-    let mut thresholds = [0i64; 100];
-    let mut factors = [0i64; 100];
-    numbers::column(numbers, false, &mut thresholds);
-    numbers::column(numbers, true, &mut factors);
-    bands::factor(&thresholds[..n], &factors[..n], rate)
+    let factored = looked_up(tail, 0);
+    few(factored.refusal, 0, 0, 0, 0)
 }
 
 // The same by all pairs that there are; a number that has no other is refused with 1, and more than 16 pairs with 5,
@@ -156,11 +136,16 @@ fn looked_up(numbers: &[i64], rate: u8) -> Factored
     found(numbers, n, rate)
 }
 
-fn bands(tail: &[i64]) -> Few
-    ensures { λ r. ⌜ r ≡ boxed (bandsReply (now (tail .entry))) ⌝ }
+// The factor of a rate by n pairs.
+fn found(numbers: &[i64], n: usize, rate: u8) -> Factored
+    requires { ⌜ n ≤ 100 ⌝ }
+    ensures { λ r. ⌜ r ≡ factorAnswer (column (now (numbers .entry)) 0 n) (column (now (numbers .entry)) 1 n) rate ⌝ }
 {
-    let factored = looked_up(tail, 0);
-    few(factored.refusal, 0, 0, 0, 0)
+    let mut thresholds = [0i64; 100];
+    let mut factors = [0i64; 100];
+    numbers::column(numbers, false, &mut thresholds);
+    numbers::column(numbers, true, &mut factors);
+    bands::factor(&thresholds[..n], &factors[..n], rate)
 }
 
 fn factor(head: [i64; 12], tail: &[i64]) -> Few
@@ -171,21 +156,40 @@ fn factor(head: [i64; 12], tail: &[i64]) -> Few
     few(factored.refusal, 1, factored.factor, 0, 0)
 }
 
-// THE FAMILY: the answer to a question about one rule, by its single numbers and by those after them; 1 where those
-// after them are not as many as the rule takes.
-pub fn answer(rule: Rule, head: [i64; 12], tail: &[i64]) -> Few
-    ensures { λ r. ⌜ r ≡ boxed (ruleReply rule head (now (tail .entry))) ⌝ }
+fn fee(head: [i64; 12]) -> Few
+    ensures { λ r. ⌜ r ≡ boxed (feeReply head) ⌝ }
 {
-    match rule {
-        Rule::Kilowatts => kilowatts(head),
-        Rule::Curve => curve(head),
-        Rule::Score => score(head),
-        Rule::Rate => rate(tail),
-        Rule::Bands => bands(tail),
-        Rule::Factor => factor(head, tail),
-        Rule::Fee => fee(head),
-        Rule::Quality => quality(head),
-        Rule::Energy => energy(head, tail),
-        Rule::Loss => loss(head),
-    }
+    charge(fees::fee(head[0], Kilowatts(head[1])))
+}
+
+// What a fee's answer prints.
+fn charge(charged: Charged) -> Few
+    ensures { λ r. ⌜ r ≡ boxed (chargeReply charged) ⌝ }
+{
+    let dollars = charged.dollars;
+    few(charged.refusal, 1, dollars.0, 0, 0)
+}
+
+fn quality(head: [i64; 12]) -> Few
+    ensures { λ r. ⌜ r ≡ boxed (qualityReply head) ⌝ }
+{
+    charge(fees::quality_part(Dollars(head[0]), Dollars(head[1]), head[2]))
+}
+
+fn energy(head: [i64; 12], tail: &[i64]) -> Few
+    ensures { λ r. ⌜ r ≡ boxed (energyReply head (now (tail .entry))) ⌝ }
+{
+    let discharge = head[0];
+    let charging = head[1];
+    charge(fees::energy_fee(tail, &head[2..6], discharge, charging))
+}
+
+fn loss(head: [i64; 12]) -> Few
+    ensures { λ r. ⌜ r ≡ boxed (lossReply head) ⌝ }
+{
+    let loss = loss::loss_fee(head[0], head[1], head[2], head[3]);
+    let basic = loss.basic;
+    let excess = loss.excess;
+    let total = loss.total;
+    few(loss.refusal, 3, basic.0, excess.0, total.0)
 }

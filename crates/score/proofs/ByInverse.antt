@@ -9,7 +9,7 @@ use Rattle.whole.specs.Whole.{up, down, minus, halfUp, nearest}
 use Rattle.whole.proofs.Signed.{size, times}
 use Rattle.whole.proofs.Rounding.{sign-up, sign-down}
 use Rattle.units.specs.Limits.{mostCapacity, mostPower, mostTransfer}
-use Rattle.score.specs.Inverse.{inverseOf}
+use Rattle.score.specs.Inner.{scale, inverseOf, leastByInverse, mostOutput}
 
 -- a number below k / d, or at most k / d where the division of k leaves something
 below : (n d s e : ℕ) → n * d < s * d + e → e < d → n < s + e
@@ -37,27 +37,27 @@ module _ (n d k : ℕ) (some : 0 < d) (small : n * d < k) where
   pub by-inverse : n * (k / d + 1) / k ≡ n / d
   by-inverse = let b = inverse-bounds in div-eq-of-lt-le k (omega arith) (omega arith)
 
--- of a capacity from 32 on the inverse is small, so that the product fits 64 bits
+-- of a capacity from 32 kW on the inverse is small, so that the product fits 64 bits
 pub record Product (n c : ℕ) : Type 0 where
-  pub by : n * inverseOf c / 17592186044416 ≡ n / (2 * c)
+  pub by : n * inverseOf c / scale ≡ n / (2 * c)
   pub fits : n * inverseOf c < 18446744073709551616
-  pub most : n / (2 * c) ≤ 1000000
+  pub most : n / (2 * c) ≤ mostOutput
 
-pub inverse-product : (n c : ℕ) → n ≤ (mostPower + mostTransfer) * 200 + mostCapacity → 32 ≤ c → c ≤ mostCapacity → Product n c
+pub inverse-product : (n c : ℕ) → n ≤ (mostPower + mostTransfer) * 200 + mostCapacity → leastByInverse ≤ c → c ≤ mostCapacity → Product n c
 unfolding inverseOf
 inverse-product n c h least most =
-    let k : ℕ = 17592186044416 in
+    let k : ℕ = scale in
     let s = k / (2 * c) in
     let q = n / (2 * c) in
     let some : 0 < 2 * c = omega arith in
-    let twice : 2 * c ≤ 200000 = omega arith in
-    let small : n * (2 * c) ≤ 60100000 * 200000 = mul-le-mul h twice in
+    let twice : 2 * c ≤ 2 * mostCapacity = omega arith in
+    let small : n * (2 * c) ≤ ((mostPower + mostTransfer) * 200 + mostCapacity) * (2 * mostCapacity) = mul-le-mul h twice in
     let a : s * (2 * c) ≤ k = div-mul-le-self k (2 * c) in
     let b : s * 64 ≤ s * (2 * c) = mul-le-mul-left s (omega arith) in
     let d : q * (2 * c) ≤ n = div-mul-le-self n (2 * c) in
     let e : q * 64 ≤ q * (2 * c) = mul-le-mul-left q (omega arith) in
-    let i : s + 1 ≤ 274877906945 = omega arith in
-    let p : n * (s + 1) ≤ 60100000 * 274877906945 = mul-le-mul h i in
+    let i : s + 1 ≤ scale / (2 * leastByInverse) + 1 = omega arith in
+    let p : n * (s + 1) ≤ ((mostPower + mostTransfer) * 200 + mostCapacity) * (scale / (2 * leastByInverse) + 1) = mul-le-mul h i in
     record { by = by-inverse n (2 * c) k some (omega arith); fits = omega arith; most = omega arith }
 
 -- the nearest percent, by the size of what is reached

@@ -18,6 +18,7 @@ use Rattle.units.specs.declared.Kilowatts.{Kilowatts}
 use Rattle.units.specs.declared.Millihertz.{Millihertz}
 use Rattle.curve.specs.Curve.{upperAt, lowerAt}
 use Rattle.score.specs.Score.{percentOutput, scoreOf, isReading, secondRefusal, judgedBy, secondScore}
+use Rattle.score.specs.Accepted.{SecondFits}
 use Rattle.score.specs.declared.Scored.{Scored}
 
 pub score-most : (output upper lower : ℤ) → scoreOf output upper lower ≤ mostScore
@@ -43,7 +44,7 @@ unfolding apart
 apart-short x y e = omega (signed, size (x -ℤ y), difference x y)
 
 -- where the lower bound is not above the upper one, the distance to the nearer bound is how far the output lies above the upper or below the lower
-pub score-outside : (output upper lower : ℤ) → leZ lower upper ≡ true → scoreOf output upper lower ≡ 100 - max (past output upper) (past lower output)
+pub score-outside : (output upper lower : ℤ) → leZ lower upper ≡ true → scoreOf output upper lower ≡ mostScore - max (past output upper) (past lower output)
 unfolding scoreOf inRange
 score-outside output upper lower order =
     by-test (leZ lower output)
@@ -60,22 +61,15 @@ score-outside output upper lower order =
     let nearer : past lower output ≤ past upper output = omega signed in
     rw (e, not-past output upper g, apart-short output upper f, apart-short output lower e) (omega arith))
 
--- what is not refused, test by test
-pub record Fit (p t c : Kilowatts) (f : Millihertz) : Type 0 where
-  pub capacity : isCapacity (c .0) ≡ true
-  pub transfer : isTransfer (t .0) ≡ true
-  pub power : isPower (p .0) ≡ true
-  pub frequency : isFrequency (f .0) ≡ true
-
 module _ (power transfer capacity : Kilowatts) (frequency : Millihertz) where
-  pub second-fit : secondRefusal power transfer capacity frequency ≡ 0 → Fit power transfer capacity frequency
+  pub second-fit : secondRefusal power transfer capacity frequency ≡ 0 → SecondFits power transfer capacity frequency
   unfolding secondRefusal
   second-fit e =
       let p = all-passed ((isCapacity (capacity .0), badCapacity) ∷ (isTransfer (transfer .0), badTransfer) ∷ (isReading (power .0) (frequency .0), badReading) ∷ []) refl e in
       let q = and-both (isPower (power .0)) (isFrequency (frequency .0)) (p .1 .1 .0) in
       record { capacity = p .0; transfer = p .1 .0; power = q .0; frequency = q .1 }
 
-  pub fit-second : Fit power transfer capacity frequency → secondRefusal power transfer capacity frequency ≡ 0
+  pub fit-second : SecondFits power transfer capacity frequency → secondRefusal power transfer capacity frequency ≡ 0
   unfolding secondRefusal
   fit-second f = rw (f .capacity, f .transfer, f .power, f .frequency)
 
@@ -99,7 +93,7 @@ module _ (power transfer capacity : Kilowatts) (frequency : Millihertz) where
   unfolding judgedBy
   score-is e = ap (λ (s : Scored). s .score) (second-granted (sym second-refusal ∙ e))
 
-  pub score-within : secondScore power transfer capacity frequency .score ≤ 100
+  pub score-within : secondScore power transfer capacity frequency .score ≤ mostScore
   unfolding secondScore judgedBy
   score-within =
       let k = secondRefusal power transfer capacity frequency in

@@ -20,20 +20,13 @@ use Rattle.units.specs.Limits.{isCapacity, mostPower, isPower, arePowers, least
 use Rattle.units.specs.Units.{kilowatts, millihertz}
 use Rattle.units.specs.declared.Kilowatts.{Kilowatts}
 use Rattle.score.specs.Score.{secondRefusal}
-use Rattle.score.specs.Run.{secondFits, fitAt, secondsRefusal, runRefusal, runScoreAt, runScores}
+use Rattle.score.specs.Run.{runRefusal, runScoreAt, runScores}
+use Rattle.score.specs.Inner.{secondFits, fitAt, secondsRefusal}
+use Rattle.score.specs.Accepted.{RunFits}
 use Rattle.score.proofs.Laws.{fit-second}
 
-pub record RunFit (powers frequencies transfers : List ℤ) (capacity : Kilowatts) (places : ℕ) : Type 0 where
-  pub as-frequencies : length frequencies ≡ length powers
-  pub as-transfers : length transfers ≡ length powers
-  pub as-places : places ≡ length powers
-  pub capacity-fits : isCapacity (capacity .0) ≡ true
-  pub transfers-fit : areTransfers transfers ≡ true
-  pub powers-fit : arePowers powers ≡ true
-  pub frequencies-fit : areFrequencies frequencies ≡ true
-
 module _ (powers frequencies transfers : List ℤ) (capacity : Kilowatts) (places : ℕ) where
-  pub run-fit : runRefusal powers frequencies transfers capacity places ≡ 0 → RunFit powers frequencies transfers capacity places
+  pub run-fit : runRefusal powers frequencies transfers capacity places ≡ 0 → RunFits powers frequencies transfers capacity places
   unfolding runRefusal
   run-fit e =
       let f = eqb (length frequencies) (length powers) in
@@ -53,14 +46,14 @@ module _ (powers frequencies transfers : List ℤ) (capacity : Kilowatts) (place
         frequencies-fit = readings .1;
       }
 
-  pub fit-run : RunFit powers frequencies transfers capacity places → runRefusal powers frequencies transfers capacity places ≡ 0
+  pub fit-run : RunFits powers frequencies transfers capacity places → runRefusal powers frequencies transfers capacity places ≡ 0
   unfolding runRefusal
   fit-run f =
       let n = length powers in
       rw (eq-eqb (length frequencies) n (f .as-frequencies), eq-eqb (length transfers) n (f .as-transfers), eq-eqb places n (f .as-places), f .capacity-fits, f .transfers-fit, f .powers-fit, f .frequencies-fit)
 
   -- each second of it
-  pub run-second : RunFit powers frequencies transfers capacity places → (i : ℕ) → i < length powers
+  pub run-second : RunFits powers frequencies transfers capacity places → (i : ℕ) → i < length powers
       → secondRefusal (kilowatts (getD powers i (pos 0))) (kilowatts (getD transfers i (pos 0))) capacity (millihertz (getD frequencies i (pos 0))) ≡ 0
   run-second f i h =
       let n = f .as-frequencies in

@@ -1,4 +1,6 @@
 -- A second's score, and the scores of a run of seconds.
 pub mod Score
-pub mod Inverse
 pub mod Run
+pub mod Accepted
+pub mod Calls
+pub mod Inner

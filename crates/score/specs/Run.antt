@@ -1,6 +1,6 @@
 -- The scores of a run of seconds, each of them as document 01, "A second's score", says.
 use Prim.Native.Nat.{ℕ}
-use mathlib.Core.Bool.{Bool, _&&_}
+use mathlib.Core.Bool.{_&&_}
 use mathlib.Core.List.{List, [], _∷_}
 use lib.Dec.{eqb}
 use lib.IntN.{ℤ, pos}
@@ -8,10 +8,10 @@ use lib.ListN.{length, getD}
 use Rattle.whole.specs.Choice.{inOrder, kept}
 use Rattle.whole.specs.Runs.{listed}
 use Rattle.units.specs.Refusals.{wrongLength, badCapacity, badReading, badTransfer}
-use Rattle.units.specs.Limits.{isCapacity, arePowers, areFrequencies, isTransfer, areTransfers}
+use Rattle.units.specs.Limits.{isCapacity, arePowers, areFrequencies, areTransfers}
 use Rattle.units.specs.Units.{kilowatts, millihertz}
 use Rattle.units.specs.declared.Kilowatts.{Kilowatts}
-use Rattle.score.specs.Score.{isReading, secondScore}
+use Rattle.score.specs.Score.{secondScore}
 
 -- the second at place i: its power, its planned transfer, and the frequency of the second before
 unfoldable pub runScoreAt : List ℤ → List ℤ → List ℤ → Kilowatts → ℕ → ℕ
@@ -20,18 +20,6 @@ runScoreAt powers frequencies transfers capacity i =
 
 unfoldable pub runScores : List ℤ → List ℤ → List ℤ → Kilowatts → List ℕ
 runScores powers frequencies transfers capacity = listed (runScoreAt powers frequencies transfers capacity) 0 (length powers)
-
--- whether a second's transfer, power and frequency lie in their ranges; and the second at place i
-unfoldable pub secondFits : ℤ → ℤ → ℤ → Bool
-secondFits power frequency transfer = isTransfer transfer && isReading power frequency
-
-abbrev pub fitAt : List ℤ → List ℤ → List ℤ → ℕ → Bool
-fitAt powers frequencies transfers i = secondFits (getD powers i (pos 0)) (getD frequencies i (pos 0)) (getD transfers i (pos 0))
-
--- 10, 4
-abbrev pub secondsRefusal : List ℤ → List ℤ → List ℤ → ℕ
-secondsRefusal powers frequencies transfers =
-    inOrder ((areTransfers transfers, badTransfer) ∷ (arePowers powers && areFrequencies frequencies, badReading) ∷ [])
 
 -- "Order. Hour, and calls for a part of its work": 1 where the four runs are not as long as each other, 2, 10, 4
 unfoldable pub runRefusal : List ℤ → List ℤ → List ℤ → Kilowatts → ℕ → ℕ

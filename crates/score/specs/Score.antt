@@ -2,9 +2,8 @@
 use Prim.Native.Nat.{ℕ, _-_, min}
 use mathlib.Core.Bool.{Bool, _&&_}
 use mathlib.Core.List.{[], _∷_}
-use lib.Dec.{eqb}
 use lib.IntN.{ℤ, pos, natAbs, _-ℤ_, _*ℤ_}
-use Rattle.whole.specs.Choice.{pick, inOrder}
+use Rattle.whole.specs.Choice.{pick, inOrder, kept}
 use Rattle.whole.specs.Whole.{inRange, apart, nearest}
 use Rattle.units.specs.Refusals.{badCapacity, badReading, badTransfer}
 use Rattle.units.specs.Limits.{isCapacity, isPower, isFrequency, isTransfer, mostScore}
@@ -35,7 +34,10 @@ unfoldable pub judgedBy : Kilowatts → Kilowatts → Kilowatts → Millihertz �
 judgedBy power transfer capacity frequency =
     scoreOf (percentOutput (power .0) (transfer .0) (capacity .0)) (upperAt (frequency .0)) (lowerAt (frequency .0))
 
+abbrev pub noScore : ℕ → Scored
+noScore k = record { refusal = k; score = 0 }
+
 unfoldable pub secondScore : Kilowatts → Kilowatts → Kilowatts → Millihertz → Scored
 secondScore power transfer capacity frequency =
     let k = secondRefusal power transfer capacity frequency in
-    pick (eqb k 0) (record { refusal = 0; score = judgedBy power transfer capacity frequency }) (record { refusal = k; score = 0 })
+    kept k (record { refusal = 0; score = judgedBy power transfer capacity frequency }) (noScore k)

@@ -8,11 +8,11 @@ ghost use lib.Signed.{ltZ, leZ};
 ghost use Rattle.whole.specs.Choice.{pick};
 ghost use Rattle.whole.specs.Folds.{allTo};
 ghost use Rattle.whole.specs.Whole.{up, down, Within, Between, halfUp, nearest};
-ghost use Rattle.units.specs.Limits.{mostCapacity, mostPower, mostTransfer};
-ghost use Rattle.curve.specs.Curve.{pairsOf};
+ghost use Rattle.units.specs.Limits.{mostCapacity, mostPower, mostTransfer, mostScore};
+ghost use Rattle.curve.specs.Curve.{mostPercent, pairsOf};
 ghost use Rattle.score.specs.Score.{percentOutput, scoreOf, secondRefusal, judgedBy, secondScore};
-ghost use Rattle.score.specs.Inverse.{inverseOf};
-ghost use Rattle.score.specs.Run.{secondFits, fitAt, secondsRefusal, runRefusal, runScores, runLeft};
+ghost use Rattle.score.specs.Inner.{mostOutput, leastByInverse, inverseOf, secondFits, fitAt, secondsRefusal};
+ghost use Rattle.score.specs.Run.{runRefusal, runScores, runLeft};
 use units::Kilowatts;
 use units::Millihertz;
 use units::limits;
@@ -21,6 +21,13 @@ use units::refusals;
 const LEAST_POWER: i64 = -limits::POWER;
 
 const LEAST_TRANSFER: i64 = -limits::TRANSFER;
+
+const MOST_SCORE: i64 = limits::SCORE as i64;
+
+// The capacity from which percents go by the inverse, and what the inverse is a part of.
+const BY_INVERSE: i64 = 32;
+
+const SCALE: u64 = 17_592_186_044_416;
 
 // A second's score, or its refusal with 0.
 pub struct Scored {
@@ -49,6 +56,24 @@ pub fn second_score(
         refusal: k,
         score: 0,
     }
+}
+
+// The scores of a run of seconds, each by its power, its planned transfer and the frequency of the second before, all
+// at one place. A refused run stays as it was.
+pub fn run_scores(
+    powers: &[i64],
+    frequencies: &[i64],
+    transfers: &[i64],
+    capacity: Kilowatts,
+    scores: &mut [u8],
+) -> u8
+    ensures { λ r. ⌜ (r ≡ runRefusal (now (powers .entry)) (now (frequencies .entry)) (now (transfers .entry)) capacity (length (now (scores .entry)))) × (now (scores .exit) ≡ runLeft (now (powers .entry)) (now (frequencies .entry)) (now (transfers .entry)) capacity (now (scores .entry))) ⌝ }
+{
+    let number = run_refusal(powers, frequencies, transfers, capacity, scores.len());
+    if number == 0 {
+        fill(powers, frequencies, transfers, capacity, scores);
+    }
+    number
 }
 
 // 2, 10, 4; 0 lets the second through.
@@ -100,20 +125,11 @@ fn by_bounds(
 ) -> u8
     requires { ⌜ Within mostPower (power .0) × (Within mostTransfer (transfer .0) × Between (pos 1) (pos mostCapacity) (capacity .0)) ⌝ }
     requires { ⌜ inverse ≡ inverseOf (natAbs (capacity .0)) ⌝ }
-    requires { ⌜ Within 100 upper × (Within 100 lower × (leZ lower upper ≡ true)) ⌝ }
+    requires { ⌜ Within mostPercent upper × (Within mostPercent lower × (leZ lower upper ≡ true)) ⌝ }
     ensures { λ r. ⌜ r ≡ scoreOf (percentOutput (power .0) (transfer .0) (capacity .0)) upper lower ⌝ }
 {
     let output = percent_output(power, transfer, capacity, inverse);
     score_of(output, upper, lower)
-}
-
-// What a run of seconds multiplies by, so that it divides by the capacity once.
-fn inverse(capacity: Kilowatts) -> u64
-    requires { ⌜ Between (pos 1) (pos mostCapacity) (capacity .0) ⌝ }
-    ensures { λ r. ⌜ r ≡ inverseOf (natAbs (capacity .0)) ⌝ }
-{
-    let c = capacity.0;
-    17_592_186_044_416 / (2 * whole::size(c)) + 1
 }
 
 // The nearest whole percent of (power - transfer) over capacity.
@@ -128,13 +144,13 @@ fn percent_output(power: Kilowatts, transfer: Kilowatts, capacity: Kilowatts, in
     nearest_percent(p - t, c, inverse)
 }
 
-// Below 32 kW the product with the inverse may not fit 64 bits.
+// By a division where the product with the inverse may not fit 64 bits.
 fn nearest_percent(reach: i64, capacity: i64, inverse: u64) -> i64
     requires { ⌜ Within (mostPower + mostTransfer) reach × Between (pos 1) (pos mostCapacity) capacity ⌝ }
     requires { ⌜ inverse ≡ inverseOf (natAbs capacity) ⌝ }
     ensures { λ r. ⌜ r ≡ nearest (reach *ℤ pos 100) (natAbs capacity) ⌝ }
 {
-    if capacity < 32 {
+    if capacity < BY_INVERSE {
         return whole::nearest(reach * 100, capacity);
     }
     let size = percents(whole::size(reach), whole::size(capacity), inverse) as i64;
@@ -145,20 +161,33 @@ fn nearest_percent(reach: i64, capacity: i64, inverse: u64) -> i64
 }
 
 fn percents(reach: u64, capacity: u64, inverse: u64) -> u64
-    requires { ⌜ (reach ≤ mostPower + mostTransfer) × ((32 ≤ capacity) × (capacity ≤ mostCapacity)) ⌝ }
+    requires { ⌜ (reach ≤ mostPower + mostTransfer) × ((leastByInverse ≤ capacity) × (capacity ≤ mostCapacity)) ⌝ }
     requires { ⌜ inverse ≡ inverseOf capacity ⌝ }
-    ensures { λ r. ⌜ (r ≡ halfUp (reach * 100) capacity) × (r ≤ 1000000) ⌝ }
+    ensures { λ r. ⌜ (r ≡ halfUp (reach * 100) capacity) × (r ≤ mostOutput) ⌝ }
 {
-    (reach * 200 + capacity) * inverse / 17_592_186_044_416
+    (reach * 200 + capacity) * inverse / SCALE
 }
 
-// 100 within the bounds, else 100 less the distance to the nearer bound, and never below 0: 100 less how far the output lies above the upper
-// bound or below the lower one.
+// 100 within the bounds, else 100 less the distance to the nearer bound, and never below 0: 100 less how far the output
+// lies above the upper bound or below the lower one.
 fn score_of(output: i64, upper: i64, lower: i64) -> u8
-    requires { ⌜ Within 30000000 output × (Within 100 upper × (Within 100 lower × (leZ lower upper ≡ true))) ⌝ }
+    requires { ⌜ Within mostOutput output × (Within mostPercent upper × (Within mostPercent lower × (leZ lower upper ≡ true))) ⌝ }
     ensures { λ r. ⌜ r ≡ scoreOf output upper lower ⌝ }
 {
     less(farther(output - upper, lower - output))
+}
+
+// 100 less the distance, and never below 0; a distance below 0 is none.
+fn less(distance: i64) -> u8
+    ensures { λ r. ⌜ r ≡ mostScore - (up distance - down distance) ⌝ }
+{
+    if distance < 0 {
+        return limits::SCORE;
+    }
+    if MOST_SCORE <= distance {
+        return 0;
+    }
+    (MOST_SCORE - distance) as u8
 }
 
 fn farther(above: i64, below: i64) -> i64
@@ -167,35 +196,13 @@ fn farther(above: i64, below: i64) -> i64
     if above < below { below } else { above }
 }
 
-// 100 less the distance, and never below 0; a distance below 0 is none.
-fn less(distance: i64) -> u8
-    ensures { λ r. ⌜ r ≡ 100 - (up distance - down distance) ⌝ }
+// What a run of seconds multiplies by, so that it divides by the capacity once.
+fn inverse(capacity: Kilowatts) -> u64
+    requires { ⌜ Between (pos 1) (pos mostCapacity) (capacity .0) ⌝ }
+    ensures { λ r. ⌜ r ≡ inverseOf (natAbs (capacity .0)) ⌝ }
 {
-    if distance < 0 {
-        return 100;
-    }
-    if 100 <= distance {
-        return 0;
-    }
-    (100 - distance) as u8
-}
-
-// The scores of a run of seconds, each by its power, its planned transfer and the frequency of the second before, all at one place. A refused
-// run stays as it was.
-pub fn run_scores(
-    powers: &[i64],
-    frequencies: &[i64],
-    transfers: &[i64],
-    capacity: Kilowatts,
-    scores: &mut [u8],
-) -> u8
-    ensures { λ r. ⌜ (r ≡ runRefusal (now (powers .entry)) (now (frequencies .entry)) (now (transfers .entry)) capacity (length (now (scores .entry)))) × (now (scores .exit) ≡ runLeft (now (powers .entry)) (now (frequencies .entry)) (now (transfers .entry)) capacity (now (scores .entry))) ⌝ }
-{
-    let number = run_refusal(powers, frequencies, transfers, capacity, scores.len());
-    if number == 0 {
-        fill(powers, frequencies, transfers, capacity, scores);
-    }
-    number
+    let c = capacity.0;
+    SCALE / (2 * whole::size(c)) + 1
 }
 
 // 1, 2, 10, 4; 0 lets the run through.

@@ -1,32 +1,9 @@
-// Text put into a lent run of bytes.
-//
-// Each public function puts its text at a place and answers the place after it. Where the text does not fit from there on, the run stays as it
-// was and the answer is the same place.
+// Text put into a lent run of bytes.  Each public function puts its text at a place and answers the place after it.
+// Where the text does not fit from there on, the run stays as it was and the answer is the same place.
 ghost use Prim.Native.Nat.{_+_, _≤_};
 ghost use mathlib.Core.Path.{_≡_};
 ghost use lib.ListN.{length};
 ghost use Rattle.text.specs.Text.{decimalOf, signedText, put, fits, placeAfter, withText};
-
-fn fits(room: usize, at: usize, long: usize) -> bool
-    ensures { λ r. ⌜ r ≡ fits room at long ⌝ }
-{
-    if room < at {
-        return false;
-    }
-    long <= room - at
-}
-
-// Copies a text that fits.
-fn copy(out: &mut [u8], at: usize, text: &[u8])
-    requires { ⌜ at + length (now text) ≤ length (now out) ⌝ }
-    ensures { λ _. ⌜ now (out .exit) ≡ put (now (out .entry)) at (now (text .entry)) ⌝ }
-{
-    let mut i = 0;
-    while i < text.len() {
-        out[at + i] = text[i];
-        i += 1;
-    }
-}
 
 // Puts bytes.
 pub fn put(out: &mut [u8], at: usize, text: &[u8]) -> usize
@@ -61,4 +38,25 @@ pub fn put_signed(out: &mut [u8], at: usize, z: i64) -> usize
         return put(out, at, &text[..k]);
     }
     put_decimal(out, at, whole::size(z))
+}
+
+fn fits(room: usize, at: usize, long: usize) -> bool
+    ensures { λ r. ⌜ r ≡ fits room at long ⌝ }
+{
+    if room < at {
+        return false;
+    }
+    long <= room - at
+}
+
+// Copies a text that fits.
+fn copy(out: &mut [u8], at: usize, text: &[u8])
+    requires { ⌜ at + length (now text) ≤ length (now out) ⌝ }
+    ensures { λ _. ⌜ now (out .exit) ≡ put (now (out .entry)) at (now (text .entry)) ⌝ }
+{
+    let mut i = 0;
+    while i < text.len() {
+        out[at + i] = text[i];
+        i += 1;
+    }
 }

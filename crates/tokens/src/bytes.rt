@@ -3,12 +3,6 @@ ghost use mathlib.Core.Path.{_≡_};
 ghost use Rattle.tokens.specs.Bytes.{separates, parts, isLetter, isDigit, digitOf};
 ghost use Rattle.words.specs.Words.{letterOf};
 
-fn separates(b: u8) -> bool
-    ensures { λ r. ⌜ r ≡ separates b ⌝ }
-{
-    (b == b' ') | (b == b'\t') | (b == b',') | (b == b'\r') | (b == b'\n')
-}
-
 pub(crate) fn parts(b: u8) -> bool
     ensures { λ r. ⌜ r ≡ parts b ⌝ }
 {
@@ -39,4 +33,10 @@ pub(crate) fn digit_of(b: u8) -> u8
     ensures { λ r. ⌜ r ≡ digitOf b ⌝ }
 {
     if b < b'0' { 0 } else { b - 48 }
+}
+
+fn separates(b: u8) -> bool
+    ensures { λ r. ⌜ r ≡ separates b ⌝ }
+{
+    (b == b' ') | (b == b'\t') | (b == b',') | (b == b'\r') | (b == b'\n')
 }

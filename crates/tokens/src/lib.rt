@@ -51,105 +51,6 @@ const COMMENT: u8 = 1;
 
 const LIMIT: u64 = 9_223_372_036_854_775_808;
 
-// A word's code with one byte more.
-fn spelled(code: u64, b: u8) -> u64
-    ensures { λ r. ⌜ r ≡ wordWith code b ⌝ }
-{
-    if bytes::is_letter(b) {
-        if code < 36_028_797_018_963_968 {
-            return code * 32 + bytes::letter_of(b) as u64;
-        }
-    }
-    NO_WORD
-}
-
-// A number's size with one digit more.
-fn counted(size: u64, b: u8) -> u64
-    requires { ⌜ isDigit b ≡ true ⌝ }
-    ensures { λ r. ⌜ r ≡ sizeWith size b ⌝ }
-{
-    if size < 922_337_203_685_477_581 {
-        return size * 10 + bytes::digit_of(b) as u64;
-    }
-    MOST_SIZE
-}
-
-// Digits without a sign.
-fn numbered(size: u64, b: u8) -> Token
-    ensures { λ r. ⌜ r ≡ numbered size b ⌝ }
-{
-    if bytes::is_digit(b) {
-        return Token::Number(counted(size, b));
-    }
-    Token::Other
-}
-
-// Digits after a sign.
-fn lowered(size: u64, b: u8) -> Token
-    ensures { λ r. ⌜ r ≡ lowered size b ⌝ }
-{
-    if bytes::is_digit(b) {
-        return Token::Below(counted(size, b));
-    }
-    Token::Other
-}
-
-// A token's first byte.
-fn begun(b: u8) -> Token
-    ensures { λ r. ⌜ r ≡ begun b ⌝ }
-{
-    if bytes::is_letter(b) {
-        return Token::Word(spelled(0, b));
-    }
-    if b == b'-' {
-        return Token::Sign;
-    }
-    numbered(0, b)
-}
-
-// The token with a byte that parts no tokens.
-fn grown(token: Token, b: u8) -> Token
-    ensures { λ r. ⌜ r ≡ grown token b ⌝ }
-{
-    match token {
-        Token::Between => begun(b),
-        Token::Comment => Token::Comment,
-        Token::Word(code) => Token::Word(spelled(code, b)),
-        Token::Sign => lowered(0, b),
-        Token::Number(size) => numbered(size, b),
-        Token::Below(size) => lowered(size, b),
-        Token::Other => Token::Other,
-    }
-}
-
-// What stands between tokens, a comment, or a token.
-fn sort(token: Token) -> u8
-    ensures { λ r. ⌜ r ≡ sortOf token ⌝ }
-{
-    match token {
-        Token::Between => BETWEEN,
-        Token::Comment => COMMENT,
-        Token::Word(_) => 2,
-        Token::Sign => 2,
-        Token::Number(_) => 2,
-        Token::Below(_) => 2,
-        Token::Other => 2,
-    }
-}
-
-// What stands after a byte that parts tokens.
-fn after(token: Token, b: u8) -> Token
-    ensures { λ r. ⌜ r ≡ after token b ⌝ }
-{
-    if b == b'\n' {
-        return Token::Between;
-    }
-    if (b == b'#') | (sort(token) == COMMENT) {
-        return Token::Comment;
-    }
-    Token::Between
-}
-
 // What a byte does to the token that it comes after.
 pub fn step(token: Token, b: u8) -> Next
     ensures { λ r. ⌜ r ≡ stepOf token b ⌝ }
@@ -166,50 +67,6 @@ pub fn step(token: Token, b: u8) -> Next
         token: grown(token, b),
         ended: false,
         word,
-    }
-}
-
-// A size without a sign.
-fn above(size: u64) -> Numeral
-    ensures { λ r. ⌜ r ≡ sizeNumber size ⌝ }
-{
-    if size < LIMIT {
-        return Numeral {
-            fault: 0,
-            value: size as i64,
-        };
-    }
-    Numeral {
-        fault: faults::TOO_LARGE,
-        value: 0,
-    }
-}
-
-// The opposite of a size.
-fn opposite(size: u64) -> i64
-    requires { ⌜ size ≤ 9223372036854775808 ⌝ }
-    ensures { λ r. ⌜ r ≡ minus size ⌝ }
-{
-    if size == 0 {
-        return 0;
-    }
-    let v = (size - 1) as i64;
-    -1 - v
-}
-
-// A size with the sign.
-fn below(size: u64) -> Numeral
-    ensures { λ r. ⌜ r ≡ belowNumber size ⌝ }
-{
-    if size <= LIMIT {
-        return Numeral {
-            fault: 0,
-            value: opposite(size),
-        };
-    }
-    Numeral {
-        fault: faults::TOO_LARGE,
-        value: 0,
     }
 }
 
@@ -241,4 +98,147 @@ pub fn number(token: Token) -> Numeral
             value: 0,
         },
     }
+}
+
+// What stands between tokens, a comment, or a token.
+fn sort(token: Token) -> u8
+    ensures { λ r. ⌜ r ≡ sortOf token ⌝ }
+{
+    match token {
+        Token::Between => BETWEEN,
+        Token::Comment => COMMENT,
+        Token::Word(_) => 2,
+        Token::Sign => 2,
+        Token::Number(_) => 2,
+        Token::Below(_) => 2,
+        Token::Other => 2,
+    }
+}
+
+// What stands after a byte that parts tokens.
+fn after(token: Token, b: u8) -> Token
+    ensures { λ r. ⌜ r ≡ after token b ⌝ }
+{
+    if b == b'\n' {
+        return Token::Between;
+    }
+    if (b == b'#') | (sort(token) == COMMENT) {
+        return Token::Comment;
+    }
+    Token::Between
+}
+
+// The token with a byte that parts no tokens.
+fn grown(token: Token, b: u8) -> Token
+    ensures { λ r. ⌜ r ≡ grown token b ⌝ }
+{
+    match token {
+        Token::Between => begun(b),
+        Token::Comment => Token::Comment,
+        Token::Word(code) => Token::Word(word_with(code, b)),
+        Token::Sign => lowered(0, b),
+        Token::Number(size) => numbered(size, b),
+        Token::Below(size) => lowered(size, b),
+        Token::Other => Token::Other,
+    }
+}
+
+// A token's first byte.
+fn begun(b: u8) -> Token
+    ensures { λ r. ⌜ r ≡ begun b ⌝ }
+{
+    if bytes::is_letter(b) {
+        return Token::Word(word_with(0, b));
+    }
+    if b == b'-' {
+        return Token::Sign;
+    }
+    numbered(0, b)
+}
+
+// A word's code with one byte more.
+fn word_with(code: u64, b: u8) -> u64
+    ensures { λ r. ⌜ r ≡ wordWith code b ⌝ }
+{
+    if bytes::is_letter(b) {
+        if code < 36_028_797_018_963_968 {
+            return code * 32 + bytes::letter_of(b) as u64;
+        }
+    }
+    NO_WORD
+}
+
+// Digits without a sign.
+fn numbered(size: u64, b: u8) -> Token
+    ensures { λ r. ⌜ r ≡ numbered size b ⌝ }
+{
+    if bytes::is_digit(b) {
+        return Token::Number(size_with(size, b));
+    }
+    Token::Other
+}
+
+// A number's size with one digit more.
+fn size_with(size: u64, b: u8) -> u64
+    requires { ⌜ isDigit b ≡ true ⌝ }
+    ensures { λ r. ⌜ r ≡ sizeWith size b ⌝ }
+{
+    if size < 922_337_203_685_477_581 {
+        return size * 10 + bytes::digit_of(b) as u64;
+    }
+    MOST_SIZE
+}
+
+// Digits after a sign.
+fn lowered(size: u64, b: u8) -> Token
+    ensures { λ r. ⌜ r ≡ lowered size b ⌝ }
+{
+    if bytes::is_digit(b) {
+        return Token::Below(size_with(size, b));
+    }
+    Token::Other
+}
+
+// A size without a sign.
+fn above(size: u64) -> Numeral
+    ensures { λ r. ⌜ r ≡ sizeNumber size ⌝ }
+{
+    if size < LIMIT {
+        return Numeral {
+            fault: 0,
+            value: size as i64,
+        };
+    }
+    Numeral {
+        fault: faults::TOO_LARGE,
+        value: 0,
+    }
+}
+
+// A size with the sign.
+fn below(size: u64) -> Numeral
+    ensures { λ r. ⌜ r ≡ belowNumber size ⌝ }
+{
+    if size <= LIMIT {
+        return Numeral {
+            fault: 0,
+            value: opposite(size),
+        };
+    }
+    Numeral {
+        fault: faults::TOO_LARGE,
+        value: 0,
+    }
+}
+
+// The opposite of a size.
+fn opposite(size: u64) -> i64
+    requires { ⌜ size ≤ 9223372036854775808 ⌝ }
+    ensures { λ r. ⌜ r ≡ minus size ⌝ }
+{
+    if size == 0 {
+        return 0;
+    }
+    let v = (size - 1) as i64;
+    -1 - v
 }

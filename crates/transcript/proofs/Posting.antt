@@ -26,9 +26,11 @@ use Rattle.numbers.specs.Numbers.{number, isByte, byteOf}
 use Rattle.words.specs.declared.Hour as words
 use Rattle.numbers.specs.declared.Places.{Places}
 use Rattle.hours.specs.Hours.{Basis, settlement}
-use Rattle.question.specs.Frames.{framed, hourFramed, hourFrame}
-use Rattle.transcript.specs.Posts.{posting, Posts, Piped}
-use Rattle.question.specs.Lines.{endOfLine, framedRefusal, frameText}
+use Rattle.frames.specs.Frames.{framedBy, hourPost}
+use Rattle.question.specs.Parts.{headOf}
+use Rattle.transcript.specs.Posts.{hourFramed, hourFrame, posting, Posts, Piped}
+use Rattle.question.specs.Lines.{endOfLine}
+use Rattle.question.specs.Frames.{framedRefusal, frameText}
 
 -- a number that is a byte, as a byte
 byte-is : (z : ℤ) → isByte z ≡ true → pos (byteOf z) ≡ z
@@ -50,9 +52,9 @@ amount-fits h =
     (λ (t : h .fits ≡ true). rw t (within-fits w64 tt (hour-within (h .hour) secondsOfHour)))
     (λ (t : h .fits ≡ false). rw t (search needs))
 
-entry-is : (asks : words.Hour) (n : List ℤ) (places : Places) → hourFrame asks n places .entry ≡ posting (byteOf (number n 0)) (byteOf (number n 1)) (hourFramed asks n places)
-unfolding hourFrame framed byteOf inRange
-entry-is asks n places = refl
+entry-is : (asks : words.Hour) (n : List ℤ) (places : Places) → hourFrame asks n places .refusal ≡ 0 → hourFrame asks n places .entry ≡ posting (byteOf (number n 0)) (byteOf (number n 1)) (hourFramed asks n places)
+unfolding hourPost framedBy headOf byteOf inRange
+entry-is asks n places k = kept-new _ _ k
 
 reads-back : (z x : ℤ) (h : Basis) → let e = posting (byteOf z) (byteOf x) h in readingOf (lineOf e) ≡ Frame e
 unfolding inForm
@@ -60,18 +62,19 @@ reads-back z x h =
     read-written (posting (byteOf z) (byteOf x) h) (record { kind = omega arith; day = byte-below z; hour = byte-below x; amount = amount-fits h }) refl
 
 pub posts : (asks : words.Hour) (n : List ℤ) (places : Places) → framedRefusal (hourFrame asks n places) ≡ 0 → Posts asks n places (byteOf (number n 0)) (byteOf (number n 1))
-unfolding hourFrame framed frameText
+unfolding hourPost framedBy headOf frameText
 posts asks n places z =
     let h = hourFramed asks n places in
     let day = number n 0 in
     let hour = number n 1 in
-    let p = both-passed (settlement h .refusal) _ (both-passed _ (writeRefusal (hourFrame asks n places .entry) 24) z .0) in
+    let k = both-passed _ (writeRefusal (hourFrame asks n places .entry) 24) z .0 in
+    let p = both-passed (settlement h .refusal) _ k in
     let b = and-both (isByte day) (isByte hour) (passed (isByte day && isByte hour) 5 0 (passed (isByte (pos postKind)) 12 _ (p .1) .1) .0) in
     record {
       accepted = p .0;
       day-asked = byte-is day (b .0);
       hour-asked = byte-is hour (b .1);
-      text = kept-new _ _ z ∙ ap (λ (e : Entry). lineOf e ++ endOfLine) (entry-is asks n places);
+      text = kept-new _ _ z ∙ ap (λ (e : Entry). lineOf e ++ endOfLine) (entry-is asks n places k);
       reads = reads-back day hour h;
     }
 

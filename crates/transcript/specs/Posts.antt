@@ -4,6 +4,7 @@ use mathlib.Core.Path.{_≡_}
 use mathlib.Core.Bool.{true}
 use mathlib.Core.List.{List, _++_}
 use lib.IntN.{ℤ, pos}
+use lib.ListN.{drop}
 use Rattle.history.specs.Rules.{Call}
 use Rattle.frame.specs.Kinds.{postKind}
 use Rattle.frame.specs.Frame.{readingOf, lineOf}
@@ -13,9 +14,19 @@ use Rattle.book.specs.Book.{Book, callRefusal, callBook, readingRefusal, bookIn
 use Rattle.numbers.specs.Numbers.{number}
 use Rattle.words.specs.declared.Hour as words
 use Rattle.numbers.specs.declared.Places.{Places}
-use Rattle.hours.specs.Hours.{Basis, settlement}
-use Rattle.question.specs.Frames.{hourFramed, hourFrame}
-use Rattle.question.specs.Lines.{endOfLine, frameText}
+use Rattle.hours.specs.Hours.{Basis, hourAsked, settlement}
+use Rattle.frames.specs.Frames.{hourPost}
+use Rattle.frames.specs.declared.Framed.{Framed}
+use Rattle.question.specs.Parts.{headOf, bandsIn}
+use Rattle.question.specs.Lines.{endOfLine}
+use Rattle.question.specs.Frames.{frameText}
+
+-- DAY HOUR, then an hour, its terms after them; and the frame that posts its amount
+abbrev pub hourFramed : words.Hour → List ℤ → Places → Basis
+hourFramed asks n places = hourAsked asks (headOf (drop 2 n)) (bandsIn n places) (drop (places .tail) n)
+
+abbrev pub hourFrame : words.Hour → List ℤ → Places → Framed
+hourFrame asks n places = hourPost asks (headOf n) (headOf (drop 2 n)) (bandsIn n places) (drop (places .tail) n)
 
 -- a post of an hour
 abbrev pub posting : ℕ → ℕ → Basis → Entry

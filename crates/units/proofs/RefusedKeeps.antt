@@ -3,16 +3,16 @@ use mathlib.Core.Path.{_≡_, ap}
 use mathlib.Core.Bool.{true, false}
 use lib.IntN.{pos}
 use Rattle.whole.specs.Refused.{RefusedBare}
-use Rattle.whole.specs.Whole.{minus, inRange}
 use Rattle.whole.proofs.Choice.{by-test}
-use Rattle.units.specs.Units.{inKilowatts}
+use Rattle.units.specs.Limits.{isAward}
+use Rattle.units.specs.Units.{kilowatts, inKilowatts}
 use Rattle.units.specs.declared.Converted.{Converted}
 use Rattle.units.proofs.to_kilowatts.Reads as to-kilowatts
 use Rattle.units.proofs.to_kilowatts.Kinds as to-kilowatts-kinds
 
-to-kilowatts-refused-keeps : RefusedBare 0 to-kilowatts-kinds.ps to-kilowatts-kinds.r (λ κs x. x .refusal) (λ κs a k. record { refusal = k; power = record { 0 = pos 0 } }) to-kilowatts.Post
+to-kilowatts-refused-keeps : RefusedBare 0 to-kilowatts-kinds.ps to-kilowatts-kinds.r (λ κs x. x .refusal) (λ κs a k. record { refusal = k; power = kilowatts (pos 0) }) to-kilowatts.Post
 unfolding inKilowatts
-to-kilowatts-refused-keeps κs a x s p f =
-    by-test (inRange (minus 100) (pos 100) (a .0 .0))
-    (λ (t : inRange (minus 100) (pos 100) (a .0 .0) ≡ true). absurd (f (ap (λ (c : Converted). c .refusal) (rw t at p))))
-    (λ (t : inRange (minus 100) (pos 100) (a .0 .0) ≡ false). let e = rw t at p in cc)
+to-kilowatts-refused-keeps κs (award, end) x s p f =
+    by-test (isAward (award .0))
+    (λ (t : isAward (award .0) ≡ true). absurd (f (ap (λ (c : Converted). c .refusal) (rw t at p))))
+    (λ (t : isAward (award .0) ≡ false). let e = rw t at p in cc)

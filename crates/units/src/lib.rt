@@ -5,6 +5,9 @@ ghost use Rattle.units.specs.Units.{inKilowatts};
 pub mod limits;
 pub mod refusals;
 
+// The least award.
+const LEAST_AWARD: i64 = -limits::AWARD;
+
 // Power and capacity; discharge is positive.
 pub struct Kilowatts(pub i64);
 
@@ -15,9 +18,6 @@ pub struct Millihertz(pub i64);
 
 // An amount.
 pub struct Dollars(pub i64);
-
-// The least award.
-const LEAST_AWARD: i64 = -limits::AWARD;
 
 // A megawatt figure in kilowatts, or its refusal with 0.
 pub struct Converted {

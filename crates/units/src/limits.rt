@@ -45,4 +45,4 @@ pub const MOST_DAYS: u8 = 31;
 
 pub const HOURS: usize = 24;
 
-pub const PLACES: usize = 744;
+pub const PLACES: usize = MOST_DAYS as usize * HOURS;

@@ -7,7 +7,7 @@ use native.Mathlib.Nat.{zero-mul, div-zero, div-lt-iff-lt-mul, div-add-mod', mod
 use mir.Syntax.{Width}
 use mir.Val.{SFits}
 use lib.IntN.{ℤ, pos, negsuc, natAbs, _-ℤ_, _*ℤ_}
-use Rattle.whole.specs.Whole.{up, down, minus, Within, apart, withSign, halfUp, roundUp, nearest, away}
+use Rattle.whole.specs.Whole.{up, down, minus, Within, apart, withSign, halfUp, roundUp, nearest, away, Nearest, Away}
 use Rattle.whole.proofs.Signed.{times, ≡-to, difference, opposite, size, size-within}
 
 pub apart-is : (x y : ℤ) → apart x y ≡ ((up x + down y) - (down x + up y)) + ((down x + up y) - (up x + down y))
@@ -97,11 +97,7 @@ sign-fits (pos n) m f h = record { sfits = omega (arith, f .sfits) }
 sign-fits (negsuc n) zero f h = record { sfits = omega (arith, f .sfits) }
 sign-fits (negsuc n) (suc m) f h = record { sfits = omega (arith, f .sfits) }
 
--- ---- `nearest` is right: no further from n / d than a half, and at a half further from zero than n / d
-
-pub record Nearest (n : ℤ) (d : ℕ) (r : ℤ) : Type 0 where
-  pub close : 2 * apart n (r *ℤ pos d) ≤ d
-  pub tie : 2 * apart n (r *ℤ pos d) ≡ d → natAbs n < natAbs r * d
+-- ---- `nearest` is right
 
 pub nearest-right : (n : ℤ) (d : ℕ) → 0 < d → Nearest n d (nearest n d)
 unfolding nearest halfUp
@@ -147,12 +143,7 @@ nearest-only n r d h p =
     from-not : {a b : ℕ} → (a < b → ⊥) → b ≤ a
     from-not f = omega (arith, f)
 
--- ---- `away` is right: with the sign of n, and the least quotient, by size, that reaches n
-
-pub record Away (n : ℤ) (d : ℕ) (r : ℤ) : Type 0 where
-  pub sign : r ≡ withSign n (natAbs r)
-  pub reaches : natAbs n ≤ natAbs r * d
-  pub least : natAbs r * d < natAbs n + d
+-- ---- `away` is right
 
 pub away-right : (n : ℤ) (d : ℕ) → 0 < d → Away n d (away n d)
 unfolding away roundUp

@@ -11,7 +11,8 @@ use lib.Signed.{leZ}
 use lib.ListN.{length, getD, take, drop, length-take, length-drop}
 use lib.Seq.{getD-take, getD-drop}
 use Rattle.whole.specs.Folds.{foldTo, sumTo, sumOf}
-use Rattle.whole.specs.Whole.{minus, Within, inRange, allInRange, summable, summed}
+use Rattle.whole.specs.Whole.{minus, Within, inRange, allInRange}
+use Rattle.whole.specs.Inner.{summable, summed}
 use borrow.Author.Tests.{eqb-true, eqb-false, ne-eqb}
 use Rattle.whole.specs.Choice.{pick}
 use Rattle.whole.proofs.Folds.{all-at, all-of, fold-same, fold-empty}

@@ -5,3 +5,4 @@ pub mod Refused
 pub mod Folds
 pub mod Runs
 pub mod Whole
+pub mod Inner

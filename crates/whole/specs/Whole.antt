@@ -1,14 +1,12 @@
 -- Whole numbers of either sign: ranges, and rounding as document 01 says ("Nearest", the ramp's "rounded up", "down").
-use Prim.Native.Nat.{ℕ, suc, _+_, _*_, _-_, _/_, _≤_}
-use mathlib.Core.Bool.{Bool, true, false, _&&_}
+use Prim.Native.Nat.{ℕ, suc, _+_, _*_, _-_, _/_, _≤_, _<_}
+use mathlib.Core.Path.{_≡_}
+use mathlib.Core.Bool.{Bool, _&&_}
 use mathlib.Core.List.{List}
-use lib.Dec.{leb}
-use lib.IntN.{ℤ, pos, negsuc, negℤ, natAbs, _-ℤ_}
+use lib.IntN.{ℤ, pos, negsuc, negℤ, natAbs, _-ℤ_, _*ℤ_}
 use lib.ListN.{length, getD}
 use lib.Signed.{leZ}
-use Rattle.whole.specs.Choice.{pick}
-use Rattle.whole.specs.Folds.{allTo, sumOf}
-use Rattle.whole.specs.declared.Summed.{Summed}
+use Rattle.whole.specs.Folds.{allTo}
 
 -- the whole number -n
 abbrev pub minus : ℕ → ℤ
@@ -64,9 +62,15 @@ nearest n d = withSign n (halfUp (natAbs n) d)
 unfoldable pub away : ℤ → ℕ → ℤ
 away n d = withSign n (roundUp (natAbs n) d)
 
--- a sum that cannot overflow: at most 1,000,000 numbers from -10^12 to 10^12. Of any other run no sum is taken.
-abbrev pub summable : List ℤ → Bool
-summable xs = leb (length xs) 1000000 && allInRange (minus 1000000000000) (pos 1000000000000) xs
+-- ---- what the two are held to (proofs/Rounding.antt)
 
-unfoldable pub summed : List ℤ → Summed
-summed xs = pick (summable xs) (record { fits = true; sum = sumOf xs }) (record { fits = false; sum = pos 0 })
+-- r is the nearest to n / d: no further from it than a half, and at a half further from zero
+pub record Nearest (n : ℤ) (d : ℕ) (r : ℤ) : Type 0 where
+  pub close : 2 * apart n (r *ℤ pos d) ≤ d
+  pub tie : 2 * apart n (r *ℤ pos d) ≡ d → natAbs n < natAbs r * d
+
+-- r is n / d rounded away from zero: with the sign of n, and the least quotient, by size, that reaches n
+pub record Away (n : ℤ) (d : ℕ) (r : ℤ) : Type 0 where
+  pub sign : r ≡ withSign n (natAbs r)
+  pub reaches : natAbs n ≤ natAbs r * d
+  pub least : natAbs r * d < natAbs n + d

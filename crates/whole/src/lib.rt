@@ -5,7 +5,21 @@ ghost use mir.Val.{SFits};
 ghost use lib.IntN.{pos, natAbs};
 ghost use lib.ListN.{getD};
 ghost use Rattle.whole.specs.Choice.{unless, orElse};
-ghost use Rattle.whole.specs.Whole.{inRange, allInRange, withSign, halfUp, roundUp, nearest, away, summed};
+ghost use Rattle.whole.specs.Whole.{inRange, allInRange, withSign, halfUp, roundUp, nearest, away};
+ghost use Rattle.whole.specs.Inner.{summed};
+
+// What `sum` takes: so many numbers, each so large.
+const MOST_TERMS: usize = 1_000_000;
+
+const MOST_TERM: i64 = 1_000_000_000_000;
+
+const LEAST_TERM: i64 = -MOST_TERM;
+
+// A sum, and whether it could be taken.
+pub struct Summed {
+    pub fits: bool,
+    pub sum: i64,
+}
 
 // The number k unless the test passed; then the rest.
 pub fn unless(ok: bool, k: u8, rest: u8) -> u8
@@ -38,7 +52,8 @@ pub fn within(x: i64, low: i64, high: i64) -> bool
     (low <= x) & (x <= high)
 }
 
-// Whether each number of a run lies from low to high. It goes on past one that does not, so that several are tested at a time.
+// Whether each number of a run lies from low to high. It goes on past one that does not, so that several are tested
+// at a time.
 pub fn all_within(run: &[i64], low: i64, high: i64) -> bool
     ensures { λ r. ⌜ r ≡ allInRange low high (now (run .entry)) ⌝ }
 {
@@ -61,6 +76,47 @@ pub fn size(x: i64) -> u64
         return m as u64 + 1;
     }
     x as u64
+}
+
+// The nearest whole number to n / d, a half going away from zero. The sign of d is left out.
+pub fn nearest(n: i64, d: i64) -> i64
+    ensures { λ r. ⌜ r ≡ nearest n (natAbs d) ⌝ }
+{
+    with_sign(n, half_up(size(n), size(d)))
+}
+
+// n / d rounded away from zero. The sign of d is left out.
+pub fn away(n: i64, d: i64) -> i64
+    ensures { λ r. ⌜ r ≡ away n (natAbs d) ⌝ }
+{
+    with_sign(n, round_up(size(n), size(d)))
+}
+
+// The sum of a run of at most 1,000,000 numbers from -10^12 to 10^12.
+pub fn sum(run: &[i64]) -> Summed
+    ensures { λ r. ⌜ r ≡ summed (now (run .entry)) ⌝ }
+{
+    let none = Summed {
+        fits: false,
+        sum: 0,
+    };
+    if MOST_TERMS < run.len() {
+        return none;
+    }
+    let mut sum: i64 = 0;
+    let mut i = 0;
+    while i < run.len() {
+        let x = run[i];
+        if !within(x, LEAST_TERM, MOST_TERM) {
+            return none;
+        }
+        sum += x;
+        i += 1;
+    }
+    Summed {
+        fits: true,
+        sum: sum,
+    }
 }
 
 // m with the sign of x.
@@ -106,51 +162,4 @@ fn round_up(m: u64, d: u64) -> u64
         return q + 1;
     }
     q
-}
-
-// The nearest whole number to n / d, a half going away from zero. The sign of d is left out.
-pub fn nearest(n: i64, d: i64) -> i64
-    ensures { λ r. ⌜ r ≡ nearest n (natAbs d) ⌝ }
-{
-    with_sign(n, half_up(size(n), size(d)))
-}
-
-// n / d rounded away from zero. The sign of d is left out.
-pub fn away(n: i64, d: i64) -> i64
-    ensures { λ r. ⌜ r ≡ away n (natAbs d) ⌝ }
-{
-    with_sign(n, round_up(size(n), size(d)))
-}
-
-// A sum, and whether it could be taken.
-pub struct Summed {
-    pub fits: bool,
-    pub sum: i64,
-}
-
-// The sum of a run of at most 1,000,000 numbers from -10^12 to 10^12.
-pub fn sum(run: &[i64]) -> Summed
-    ensures { λ r. ⌜ r ≡ summed (now (run .entry)) ⌝ }
-{
-    let none = Summed {
-        fits: false,
-        sum: 0,
-    };
-    if 1_000_000 < run.len() {
-        return none;
-    }
-    let mut sum: i64 = 0;
-    let mut i = 0;
-    while i < run.len() {
-        let x = run[i];
-        if !within(x, -1_000_000_000_000, 1_000_000_000_000) {
-            return none;
-        }
-        sum += x;
-        i += 1;
-    }
-    Summed {
-        fits: true,
-        sum: sum,
-    }
 }

@@ -3,3 +3,4 @@ pub mod Faults
 pub mod Words
 pub mod Questions
 pub mod Replies
+pub mod Inner

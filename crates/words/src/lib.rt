@@ -61,6 +61,49 @@ pub struct Row {
     pub shape: Shape,
 }
 
+// The answer of a question with few fields: a refusal's number and the fields, zeros after them.
+pub struct Few {
+    pub refusal: u8,
+    pub count: usize,
+    pub values: [i64; 12],
+}
+
+// THE TABLE: what a word's code asks.
+pub fn question_of(code: u64) -> Row
+    ensures { λ r. ⌜ r ≡ questionOf code ⌝ }
+{
+    match code {
+        codes::KILOWATTS => singles(Question::Rule(Rule::Kilowatts), 1),
+        codes::CURVE => singles(Question::Rule(Rule::Curve), 1),
+        codes::SCORE => singles(Question::Rule(Rule::Score), 4),
+        codes::RAMP => singles(Question::Series(Series::Ramp), 2),
+        codes::RATE => seconds(Question::Rule(Rule::Rate), 0),
+        codes::BANDS => groups(Question::Rule(Rule::Bands), 0, 2),
+        codes::FACTOR => groups(Question::Rule(Rule::Factor), 1, 2),
+        codes::FEE => singles(Question::Rule(Rule::Fee), 2),
+        codes::QUALITY => singles(Question::Rule(Rule::Quality), 3),
+        codes::ENERGY => seconds(Question::Rule(Rule::Energy), 6),
+        codes::LOSS => singles(Question::Rule(Rule::Loss), 4),
+        codes::DREG => hourly(Question::Hour(Hour::Dreg), 3),
+        codes::EDREG => hourly(Question::Hour(Hour::Edreg), 10),
+        codes::DREG_SCORES => hourly(Question::Series(Series::DregScores), 3),
+        codes::EDREG_SCORES => hourly(Question::Series(Series::EdregScores), 10),
+        codes::DREG_FRAME => hourly(Question::Frame(Framing::DregFrame), 5),
+        codes::EDREG_FRAME => hourly(Question::Frame(Framing::EdregFrame), 12),
+        codes::FRAME => singles(Question::Frame(Framing::Frame), 4),
+        _ => Row {
+            fault: faults::NOT_QUESTION,
+            question: Question::Unknown,
+            shape: Shape {
+                head: 0,
+                lists: [0, 0, 0, 0],
+                tail: 0,
+                group: 0,
+            },
+        },
+    }
+}
+
 // Single numbers.
 fn singles(question: Question, head: u8) -> Row
     ensures { λ r. ⌜ r ≡ known question (singles head) ⌝ }
@@ -123,47 +166,4 @@ fn hourly(question: Question, head: u8) -> Row
             group: 0,
         },
     }
-}
-
-// THE TABLE: what a word's code asks.
-pub fn question_of(code: u64) -> Row
-    ensures { λ r. ⌜ r ≡ questionOf code ⌝ }
-{
-    match code {
-        codes::KILOWATTS => singles(Question::Rule(Rule::Kilowatts), 1),
-        codes::CURVE => singles(Question::Rule(Rule::Curve), 1),
-        codes::SCORE => singles(Question::Rule(Rule::Score), 4),
-        codes::RAMP => singles(Question::Series(Series::Ramp), 2),
-        codes::RATE => seconds(Question::Rule(Rule::Rate), 0),
-        codes::BANDS => groups(Question::Rule(Rule::Bands), 0, 2),
-        codes::FACTOR => groups(Question::Rule(Rule::Factor), 1, 2),
-        codes::FEE => singles(Question::Rule(Rule::Fee), 2),
-        codes::QUALITY => singles(Question::Rule(Rule::Quality), 3),
-        codes::ENERGY => seconds(Question::Rule(Rule::Energy), 6),
-        codes::LOSS => singles(Question::Rule(Rule::Loss), 4),
-        codes::DREG => hourly(Question::Hour(Hour::Dreg), 3),
-        codes::EDREG => hourly(Question::Hour(Hour::Edreg), 10),
-        codes::DREG_SCORES => hourly(Question::Series(Series::DregScores), 3),
-        codes::EDREG_SCORES => hourly(Question::Series(Series::EdregScores), 10),
-        codes::DREG_FRAME => hourly(Question::Frame(Framing::DregFrame), 5),
-        codes::EDREG_FRAME => hourly(Question::Frame(Framing::EdregFrame), 12),
-        codes::FRAME => singles(Question::Frame(Framing::Frame), 4),
-        _ => Row {
-            fault: faults::NOT_QUESTION,
-            question: Question::Unknown,
-            shape: Shape {
-                head: 0,
-                lists: [0, 0, 0, 0],
-                tail: 0,
-                group: 0,
-            },
-        },
-    }
-}
-
-// The answer of a question with few fields: a refusal's number and the fields, zeros after them.
-pub struct Few {
-    pub refusal: u8,
-    pub count: usize,
-    pub values: [i64; 12],
 }

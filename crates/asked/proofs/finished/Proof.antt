@@ -18,26 +18,26 @@ named-requires c κs = search needs
 enum-told-3 : tie.Need-enum-told-3
 enum-told-3 c = search needs
 
-joined-requires : tie.Need-joined-requires
-joined-requires c κs = search needs
+with-token-requires : tie.Need-with-token-requires
+with-token-requires c κs = search needs
 
 enum-told-4 : tie.Need-enum-told-4
 enum-told-4 c = search needs
 
-joined-requires-2 : tie.Need-joined-requires-2
-joined-requires-2 c κs = search needs
+with-token-requires-2 : tie.Need-with-token-requires-2
+with-token-requires-2 c κs = search needs
 
 enum-told-5 : tie.Need-enum-told-5
 enum-told-5 c = search needs
 
-joined-requires-3 : tie.Need-joined-requires-3
-joined-requires-3 c κs = search needs
+with-token-requires-3 : tie.Need-with-token-requires-3
+with-token-requires-3 c κs = search needs
 
 enum-told-6 : tie.Need-enum-told-6
 enum-told-6 c = search needs
 
-joined-requires-4 : tie.Need-joined-requires-4
-joined-requires-4 c κs = search needs
+with-token-requires-4 : tie.Need-with-token-requires-4
+with-token-requires-4 c κs = search needs
 
 returns : tie.Need-returns
 returns c = search needs
@@ -49,16 +49,16 @@ returns-3 : tie.Need-returns-3
 returns-3 c = rw (c .before .before .token .given .1) (c .named .ensures)
 
 returns-4 : tie.Need-returns-4
-returns-4 c = let e = c .before .enum-told3 .given .1 in rw e (rw e at (c .joined .ensures))
+returns-4 c = let e = c .before .enum-told3 .given .1 in rw e (rw e at (c .with-token .ensures))
 
 returns-5 : tie.Need-returns-5
-returns-5 c = let e = c .before .enum-told4 .given .1 in rw e (rw e at (c .joined2 .ensures))
+returns-5 c = let e = c .before .enum-told4 .given .1 in rw e (rw e at (c .with-token2 .ensures))
 
 returns-6 : tie.Need-returns-6
-returns-6 c = let e = c .before .enum-told5 .given .1 in rw e (rw e at (c .joined3 .ensures))
+returns-6 c = let e = c .before .enum-told5 .given .1 in rw e (rw e at (c .with-token3 .ensures))
 
 returns-7 : tie.Need-returns-7
-returns-7 c = let e = c .before .enum-told6 .given .1 in rw e (rw e at (c .joined4 .ensures))
+returns-7 c = let e = c .before .enum-told6 .given .1 in rw e (rw e at (c .with-token4 .ensures))
 
 pub finished-spec : {M : Type 1} → statement M
 finished-spec =
@@ -69,13 +69,13 @@ finished-spec =
     enum-known-token
     named-requires
     enum-told-3
-    joined-requires
+    with-token-requires
     enum-told-4
-    joined-requires-2
+    with-token-requires-2
     enum-told-5
-    joined-requires-3
+    with-token-requires-3
     enum-told-6
-    joined-requires-4
+    with-token-requires-4
     returns
     returns-2
     returns-3

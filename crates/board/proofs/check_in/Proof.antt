@@ -1,5 +1,4 @@
 -- `board::check_in` meets its contract: its tests are the definition's, in order. Assumes nothing.
-use Prim.Native.Nat.{ℕ}
 use mathlib.Core.Path.{_≡_, sym, ap, ap₂, _∙_}
 use mathlib.Core.Bool.{Bool, true, _&&_}
 use lib.Dec.{eqb}
@@ -9,9 +8,10 @@ use Rattle.whole.specs.Choice.{unless}
 use Rattle.whole.proofs.Choice.{and-both}
 use Rattle.units.specs.Limits.{monthPlaces}
 use Rattle.units.specs.Refusals.{notReachable}
-use Rattle.history.specs.Board.{runsFit, wellFormed, ledgerRefusal}
+use Rattle.history.specs.Board.{wellFormed}
+use Rattle.history.specs.Inner.{runsFit, ledgerRefusal}
 use Rattle.head.specs.Rules.{monthRules}
-use Rattle.head.specs.Head.{boardIn}
+use Rattle.head.specs.Inner.{boardIn}
 use borrow.Author.Needs.{needs}
 use Rattle.board.proofs.check_in.Statement.{statement}
 use Rattle.board.proofs.check_in.Tie as tie

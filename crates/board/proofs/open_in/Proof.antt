@@ -11,8 +11,8 @@ use borrow.Author.Needs.{needs}
 use Rattle.board.proofs.open_in.Statement.{statement}
 use Rattle.board.proofs.open_in.Tie as tie
 
-opened-requires : tie.Need-opened-requires
-opened-requires c κs = search needs
+opened-on-requires : tie.Need-opened-on-requires
+opened-on-requires c κs = search needs
 
 clear-marks-requires : tie.Need-clear-marks-requires
 clear-marks-requires c κs = search needs
@@ -34,22 +34,22 @@ returns c =
     let t = m .before .before in
     let o = t .before .before in
     let a = o .before .before .args in
-    let left = open-cleared (a .days) (a .marks .now) (a .amounts .now) (sym (ap (λ (h : Headed). h .refusal) (o .opened .ensures)) ∙ t .if1 .taken) in
-    (o .opened .ensures, (m .clear-marks .ensures ∙ left .0, y .clear-amounts .ensures ∙ left .1))
+    let left = open-cleared (a .days) (a .marks .now) (a .amounts .now) (sym (ap (λ (h : Headed). h .refusal) (o .opened-on .ensures)) ∙ t .if1 .taken) in
+    (o .opened-on .ensures, (m .clear-marks .ensures ∙ left .0, y .clear-amounts .ensures ∙ left .1))
 
 returns-2 : tie.Need-returns-2
 unfolding openedIn
 returns-2 c =
     let o = c .before .before in
     let a = o .before .before .args in
-    let left = open-refused (a .days) (a .marks .now) (a .amounts .now) (λ z. c .if1 .left (ap (λ (h : Headed). h .refusal) (o .opened .ensures) ∙ z)) in
-    (o .opened .ensures, (ap (λ (b : Board Fee Bool ℤ). b .marks) left, ap (λ (b : Board Fee Bool ℤ). b .amounts) left))
+    let left = open-refused (a .days) (a .marks .now) (a .amounts .now) (λ z. c .if1 .left (ap (λ (h : Headed). h .refusal) (o .opened-on .ensures) ∙ z)) in
+    (o .opened-on .ensures, (ap (λ (b : Board Fee Bool ℤ). b .marks) left, ap (λ (b : Board Fee Bool ℤ). b .amounts) left))
 
 pub open-in-spec : {M : Type 1} → statement M
 open-in-spec =
     tie.close
     (tie.spec
-    opened-requires
+    opened-on-requires
     clear-marks-requires
     clear-amounts-requires
     same-length

@@ -3,16 +3,15 @@ use mathlib.Core.Path.{ap, _∙_}
 use mir.Syntax.{w64}
 use mir.Val.{SFits}
 use mir.Facts.{toZ-ofZ}
-use Rattle.units.specs.Limits.{isAmount, hoursOfDay}
+use Rattle.units.specs.Limits.{isAmount}
 use Rattle.whole.proofs.Signed.{zero-bits}
-use Rattle.history.proofs.Days.{hours-even}
 use Rattle.board.proofs.Core.{test-is}
 use borrow.Author.Needs.{needs}
 use Rattle.board.proofs.place_fits.Statement.{statement}
 use Rattle.board.proofs.place_fits.Tie as tie
 
-mul-result : tie.Need-mul-result
-mul-result c = search needs
+places-requires : tie.Need-places-requires
+places-requires c κs = search needs
 
 sub-within : tie.Need-sub-within
 sub-within c = search needs
@@ -25,10 +24,11 @@ amount-fits c = search needs
 
 returns : tie.Need-returns
 returns c =
-    let t = c .before in
+    let p = c .before in
+    let t = p .before in
     let a = t .before .before .args in
     let test = c .within .ensures ∙ ap (isAmount) (toZ-ofZ (amount-fits (t .before))) in
-    rw (t .if1 .taken, test, test-is (isAmount (a .amount .0)), hours-even hoursOfDay (a .days))
+    rw (t .if1 .taken, test, test-is (isAmount (a .amount .0)), p .places .ensures)
 
 returns-2 : tie.Need-returns-2
 returns-2 c =
@@ -36,4 +36,4 @@ returns-2 c =
     rw (c .if1 .left) (zero-bits f)
 
 pub place-fits-spec : {M : Type 1} → statement M
-place-fits-spec = tie.close (tie.spec mul-result sub-within within-requires returns returns-2)
+place-fits-spec = tie.close (tie.spec places-requires sub-within within-requires returns returns-2)

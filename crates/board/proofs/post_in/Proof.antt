@@ -6,8 +6,8 @@ use borrow.Author.Needs.{needs}
 use Rattle.board.proofs.post_in.Statement.{statement}
 use Rattle.board.proofs.post_in.Tie as tie
 
-number-requires : tie.Need-number-requires
-number-requires c κs = search needs
+place-ruled-requires : tie.Need-place-ruled-requires
+place-ruled-requires c κs = search needs
 
 put-requires : tie.Need-put-requires
 put-requires c κs = search needs
@@ -24,7 +24,7 @@ returns c =
     let t = p .before .before .before in
     let n = t .before in
     let a = n .before .before .before .before .args in
-    let is = (n .number .ensures) in
+    let is = (n .place-ruled .ensures) in
     (is, let-through (a .head) (a .marks .now) (a .amounts .now) (a .place) (Deed.posts (amountItem (a .amount .0))) _ is (t .if1 .taken) _ _ (p .put .ensures .0) (p .put .ensures .1))
 
 same-length-3 : tie.Need-same-length-3
@@ -37,14 +37,14 @@ returns-2 : tie.Need-returns-2
 returns-2 c =
     let n = c .before in
     let a = n .before .before .before .before .args in
-    let is = (n .number .ensures) in
+    let is = (n .place-ruled .ensures) in
     (is, turned-away (a .head) (a .marks .now) (a .amounts .now) (a .place) (Deed.posts (amountItem (a .amount .0))) _ is (c .if1 .left))
 
 pub post-in-spec : {M : Type 1} → statement M
 post-in-spec =
     tie.close
     (tie.spec
-    number-requires
+    place-ruled-requires
     put-requires
     same-length
     same-length-2

@@ -4,13 +4,13 @@ use lib.IntN.{ℤ, _-ℤ_}
 use mir.Syntax.{w64}
 use mir.Val.{SFits, toZ, ofZ}
 use mir.Facts.{toZ-ofZ}
-use Rattle.whole.specs.Whole.{summed}
+use Rattle.whole.specs.Inner.{summed}
 use Rattle.whole.specs.declared.Summed.{Summed}
 use Rattle.whole.proofs.Signed.{signed}
-use Rattle.history.specs.Board.{ledgerRefusal}
+use Rattle.history.specs.Inner.{ledgerRefusal}
 use Rattle.history.proofs.Board.{Good}
 use Rattle.head.specs.Rules.{monthRules}
-use Rattle.head.specs.Head.{boardIn}
+use Rattle.head.specs.Inner.{boardIn}
 use Rattle.board.specs.Board.{toldOf}
 use Rattle.board.proofs.Core.{total-away, total-told}
 use Rattle.board.proofs.Sums.{ledger-form, all-summed, all-within, fee-within, total-sum}

@@ -5,8 +5,8 @@ use borrow.Author.Needs.{needs}
 use Rattle.board.proofs.withdraw_in.Statement.{statement}
 use Rattle.board.proofs.withdraw_in.Tie as tie
 
-number-requires : tie.Need-number-requires
-number-requires c κs = search needs
+place-ruled-requires : tie.Need-place-ruled-requires
+place-ruled-requires c κs = search needs
 
 put-requires : tie.Need-put-requires
 put-requires c κs = search needs
@@ -23,7 +23,7 @@ returns c =
     let t = p .before .before .before in
     let n = t .before in
     let a = n .before .before .before .before .args in
-    let is = withdrawal (a .head) (a .marks .now) (a .amounts .now) (a .place) _ (n .number .ensures) in
+    let is = withdrawal (a .head) (a .marks .now) (a .amounts .now) (a .place) _ (n .place-ruled .ensures) in
     (is, let-through (a .head) (a .marks .now) (a .amounts .now) (a .place) Deed.withdraws _ is (t .if1 .taken) _ _ (p .put .ensures .0) (p .put .ensures .1))
 
 same-length-3 : tie.Need-same-length-3
@@ -36,14 +36,14 @@ returns-2 : tie.Need-returns-2
 returns-2 c =
     let n = c .before in
     let a = n .before .before .before .before .args in
-    let is = withdrawal (a .head) (a .marks .now) (a .amounts .now) (a .place) _ (n .number .ensures) in
+    let is = withdrawal (a .head) (a .marks .now) (a .amounts .now) (a .place) _ (n .place-ruled .ensures) in
     (is, turned-away (a .head) (a .marks .now) (a .amounts .now) (a .place) Deed.withdraws _ is (c .if1 .left))
 
 pub withdraw-in-spec : {M : Type 1} → statement M
 withdraw-in-spec =
     tie.close
     (tie.spec
-    number-requires
+    place-ruled-requires
     put-requires
     same-length
     same-length-2

@@ -10,8 +10,8 @@ returns c = opened-14 _ _ _ _ (c .if1 .taken)
 open-in-requires : tie.Need-open-in-requires
 open-in-requires c κs = search needs
 
-after-open-requires : tie.Need-after-open-requires
-after-open-requires c κs = search needs
+open-taken-requires : tie.Need-open-taken-requires
+open-taken-requires c κs = search needs
 
 same-length : tie.Need-same-length
 same-length c = search needs
@@ -25,9 +25,9 @@ returns-2 c =
     let e = o .before .before .before in
     let a = e .before .before .args in
     let h = o .open-in .ensures in
-    opened-by (a .cover) (a .marks .now) (a .amounts .now) (a .days) _ _ _ _ (e .if1 .left) (c .after-open .ensures) (h .0) (h .1 .0) (h .1 .1)
+    opened-by (a .cover) (a .marks .now) (a .amounts .now) (a .days) _ _ _ _ (e .if1 .left) (c .open-taken .ensures) (h .0) (h .1 .0) (h .1 .1)
 
 pub open-month-spec : {M : Type 1} → statement M
 open-month-spec =
     tie.close
-    (tie.spec returns open-in-requires after-open-requires same-length same-length-2 returns-2)
+    (tie.spec returns open-in-requires open-taken-requires same-length same-length-2 returns-2)

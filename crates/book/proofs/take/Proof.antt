@@ -14,14 +14,14 @@ enum-known-got c = search needs
 enum-told : tie.Need-enum-told
 enum-told c = search needs
 
-refusal-of-requires : tie.Need-refusal-of-requires
-refusal-of-requires c κs = search needs
+refusal-number-requires : tie.Need-refusal-number-requires
+refusal-number-requires c κs = search needs
 
 returns : tie.Need-returns
 returns c =
     let r = c .before .before .before .read-frame .ensures in
     let q = sym r ∙ c .before .enum-told .given .1 in
-    (c .refusal-of .ensures ∙ ap refusalNumber (r ∙ q) ∙ rw q, rw q)
+    (c .refusal-number .ensures ∙ ap refusalNumber (r ∙ q) ∙ rw q, rw q)
 
 take-frame-requires : tie.Need-take-frame-requires
 take-frame-requires c κs = search needs
@@ -46,7 +46,7 @@ take-spec =
     read-frame-requires
     enum-known-got
     enum-told
-    refusal-of-requires
+    refusal-number-requires
     returns
     take-frame-requires
     same-length

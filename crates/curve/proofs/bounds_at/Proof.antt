@@ -10,7 +10,7 @@ use mir.Val.{SFits, toZ, ofZ}
 use mir.Facts.{toZ-ofZ}
 use borrow.Author.Needs.{needs}
 use Rattle.whole.proofs.Signed.{within-fits}
-use Rattle.curve.specs.Curve.{upperAt, lowerAt}
+use Rattle.curve.specs.Curve.{upperAt, lowerAt, lastPlace}
 use Rattle.curve.proofs.Limits.{place-within, upper-in, lower-in, upper-within, lower-within}
 use Rattle.curve.proofs.bounds_at.Statement.{statement}
 use Rattle.curve.proofs.bounds_at.Tie as tie
@@ -21,7 +21,7 @@ pairs-requires c κs = search needs
 place-requires : tie.Need-place-requires
 place-requires c κs = search needs
 
-place-small : (c : tie.After-place) → c .place .result < 501
+place-small : (c : tie.After-place) → c .place .result < lastPlace + 1
 place-small c = let p = c .place .ensures in omega (arith, place-within (c .before .before .args .frequency .0))
 
 mul-k : tie.Need-mul-k

@@ -9,7 +9,8 @@ use mir.Val.{SFits}
 use mir.Facts.{toZ-ofZ}
 use borrow.Author.Needs.{needs}
 use Rattle.whole.proofs.Signed.{signed, difference, size, not-negative, size-fits}
-use Rattle.curve.specs.Curve.{reference, reach, firstFrequency, placeAt}
+use Rattle.curve.specs.Curve.{reference, reach, firstFrequency}
+use Rattle.curve.specs.Inner.{placeAt}
 use Rattle.curve.proofs.Laws.{placed}
 use Rattle.curve.proofs.place.Statement.{statement}
 use Rattle.curve.proofs.place.Tie as tie

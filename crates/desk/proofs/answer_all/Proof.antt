@@ -1,5 +1,5 @@
 -- `desk::answer_all` is safe and ends: the number of steps that are left falls, and each run keeps its length. Assumes nothing.
-use Prim.Native.Nat.{_<_}
+use Prim.Native.Nat.{_≤_, _<_}
 use mathlib.Core.Path.{_≡_, refl}
 use mathlib.Core.Bool.{not, _&&_}
 use native.Mathlib.Omega.{arith}
@@ -11,16 +11,16 @@ use Rattle.desk.proofs.answer_all.Statement.{statement}
 use Rattle.desk.proofs.answer_all.Tie as tie
 
 abbrev Inv-loop : tie.InvT-loop
-Inv-loop chunk numbers₀ out₀ now₀ steps₀ numbers out now steps = (length numbers ≡ length numbers₀) × (length out ≡ length out₀)
+Inv-loop chunk numbers₀ out₀ now₀ steps₀ numbers out now steps = (now .from ≤ length chunk) × (length numbers ≡ length numbers₀) × (length out ≡ length out₀)
 
 abbrev μ-loop : tie.MeasureT-loop
 μ-loop chunk numbers₀ out₀ now₀ steps₀ numbers out now steps = steps
 
 loop-holds : tie.Need-loop-holds Inv-loop μ-loop
-loop-holds c = (refl, refl)
+loop-holds c = (omega arith, refl, refl)
 
 feed-on-requires : tie.Need-feed-on-requires Inv-loop μ-loop
-feed-on-requires c κs = tt
+feed-on-requires c κs = c .before .before .before .before .before .before .loop .inv .0
 
 -- a step is left
 some : (c : tie.Then1 Inv-loop μ-loop) → 0 < c .before .before .before .loop .steps
@@ -39,13 +39,13 @@ loop-again : tie.Need-loop-again Inv-loop μ-loop
 loop-again c =
     let k = c .before .before .before .feed-on .kept in
     let i = c .before .before .before .before .before .before .before .before .before .before .loop .inv in
-    (omega (arith, k .1 .1 .1 .0, i .0), omega (arith, k .1 .1 .1 .1 .0, i .1))
+    (c .before .before .before .feed-on .ensures, omega (arith, k .1 .1 .1 .0, i .1), omega (arith, k .1 .1 .1 .1 .0, i .2))
 
 same-length : tie.Need-same-length Inv-loop μ-loop
-same-length c = c .before .before .before .loop .inv .0
+same-length c = c .before .before .before .loop .inv .1
 
 same-length-2 : tie.Need-same-length-2 Inv-loop μ-loop
-same-length-2 c = c .before .before .before .loop .inv .1
+same-length-2 c = c .before .before .before .loop .inv .2
 
 returns : tie.Need-returns Inv-loop μ-loop
 returns c = tt

@@ -5,14 +5,8 @@ use borrow.Author.Needs.{needs}
 use Rattle.desk.proofs.close.Statement.{statement}
 use Rattle.desk.proofs.close.Tie as tie
 
-array-share-prefix-none : tie.Need-array-share-prefix-none
-array-share-prefix-none c = search needs
-
-slice-aggregate-feed : tie.Need-slice-aggregate-feed
-slice-aggregate-feed c = search needs
-
-feed-requires : tie.Need-feed-requires
-feed-requires c κs = search needs
+finish-requires : tie.Need-finish-requires
+finish-requires c κs = search needs
 
 slice-reshare-prefix-write-all : tie.Need-slice-reshare-prefix-write-all
 slice-reshare-prefix-write-all c = search needs
@@ -36,9 +30,7 @@ pub close-spec : {M : Type 1} → statement M
 close-spec =
     tie.close
     (tie.spec
-    array-share-prefix-none
-    slice-aggregate-feed
-    feed-requires
+    finish-requires
     slice-reshare-prefix-write-all
     slice-aggregate-write-all
     write-all-requires

@@ -1,12 +1,9 @@
--- `desk::feed_on` is safe and ends: no more is written than there is. Assumes nothing.
+-- `desk::feed_on` is safe and ends: no more is taken and no more is written than there is. Assumes nothing.
 use mathlib.Core.Path.{sym}
 use lib.Seq.{length-take-le}
 use borrow.Author.Needs.{needs}
 use Rattle.desk.proofs.feed_on.Statement.{statement}
 use Rattle.desk.proofs.feed_on.Tie as tie
-
-within-requires : tie.Need-within-requires
-within-requires c κs = search needs
 
 sub-feed : tie.Need-sub-feed
 sub-feed c = search needs
@@ -45,7 +42,6 @@ pub feed-on-spec : {M : Type 1} → statement M
 feed-on-spec =
     tie.close
     (tie.spec
-    within-requires
     sub-feed
     part-feed-start
     part-feed-end

@@ -7,9 +7,10 @@ use mir.Facts.{toZ-ofZ}
 use borrow.Author.Needs.{needs}
 use Rattle.whole.proofs.Choice.{kept-old}
 use Rattle.whole.proofs.Signed.{back}
-use Rattle.fees.specs.Fees.{chargeOf, noCharge, energyParts, energyFee, energyRefusal, energyAnswer, energyExact}
+use Rattle.fees.specs.Fees.{chargeOf, noCharge, energyFee, energyRefusal, energyAnswer, energyExact}
 use Rattle.fees.specs.declared.Exact.{Exact}
-use Rattle.fees.proofs.Laws.{EnergyFits, energy-fits, energy-granted, exact-refusal, exact-granted}
+use Rattle.fees.proofs.Laws.{energy-fits, energy-granted, exact-refusal, exact-granted}
+use Rattle.fees.specs.Accepted.{EnergyFits}
 use Rattle.fees.proofs.energy_fee.Statement.{statement}
 use Rattle.fees.proofs.energy_fee.Tie as tie
 

@@ -10,7 +10,8 @@ use Rattle.whole.proofs.Signed.{back, within-fits}
 use Rattle.fees.specs.Fees.{chargeOf, noCharge, chargeRefusal, feeAnswer}
 use Rattle.fees.specs.Fees.{fee as feeFormula}
 use Rattle.whole.proofs.Bounds.{to-within}
-use Rattle.fees.proofs.Laws.{FeeFits, fee-fits, fee-product, fee-granted}
+use Rattle.fees.proofs.Laws.{fee-fits, fee-product, fee-granted}
+use Rattle.fees.specs.Accepted.{FeeFits}
 use Rattle.fees.proofs.fee.Statement.{statement}
 use Rattle.fees.proofs.fee.Tie as tie
 

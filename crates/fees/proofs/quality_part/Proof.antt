@@ -8,7 +8,8 @@ use borrow.Author.Needs.{needs}
 use Rattle.whole.proofs.Choice.{kept-old}
 use Rattle.whole.proofs.Signed.{back, within-fits}
 use Rattle.fees.specs.Fees.{chargeOf, noCharge, qualityPart, qualityRefusal, qualityAnswer}
-use Rattle.fees.proofs.Laws.{QualityFits, quality-fits, fees-within, quality-product, quality-granted}
+use Rattle.fees.proofs.Laws.{quality-fits, fees-within, quality-product, quality-granted}
+use Rattle.fees.specs.Accepted.{QualityFits}
 use Rattle.fees.proofs.quality_part.Statement.{statement}
 use Rattle.fees.proofs.quality_part.Tie as tie
 

@@ -1,5 +1,5 @@
 -- `fees::quarter_part` meets its contract: the quarter's sum is taken, and with the price it is small enough. Assumes nothing.
-use mathlib.Core.Path.{_≡_, ap, _∙_}
+use mathlib.Core.Path.{_≡_}
 use Prim.Native.Nat.{_+_, _*_, _-_}
 use native.Mathlib.Omega.{arith}
 use lib.IntN.{pos}
@@ -9,12 +9,11 @@ use mir.Val.{SFits, toZ, ofZ}
 use mir.Facts.{toZ-ofZ}
 use borrow.Author.Needs.{needs}
 use Rattle.whole.specs.Folds.{sumOf}
-use Rattle.whole.specs.declared.Summed.{Summed}
 use Rattle.whole.proofs.Signed.{back, within-fits}
-use Rattle.whole.proofs.Sums.{summed-is}
 use Rattle.units.specs.Limits.{secondsOfQuarter}
 use Rattle.fees.specs.Fees.{signedPrice, quarterPowers, quarterPart}
-use Rattle.fees.proofs.Laws.{EnergyFits, energy-fits, quarter-summable, part-within}
+use Rattle.fees.proofs.Laws.{energy-fits, quarter-length, quarter-powers, part-within}
+use Rattle.fees.specs.Accepted.{EnergyFits}
 use Rattle.fees.proofs.quarter_part.Statement.{statement}
 use Rattle.fees.proofs.quarter_part.Tie as tie
 
@@ -35,34 +34,35 @@ signed-price-requires c κs =
 mul-start : tie.Need-mul-start
 mul-start c = search needs
 
-add-sum : tie.Need-add-sum
-add-sum c = search needs
+add-power-sum : tie.Need-add-power-sum
+add-power-sum c = search needs
 
-mul-sum : tie.Need-mul-sum
-mul-sum c = search needs
+mul-power-sum : tie.Need-mul-power-sum
+mul-power-sum c = search needs
 
-sub-sum : tie.Need-sub-sum
-sub-sum c = search needs
+sub-power-sum : tie.Need-sub-power-sum
+sub-power-sum c = search needs
 
-part-sum-start : tie.Need-part-sum-start
-part-sum-start c = search needs
+part-power-sum-start : tie.Need-part-power-sum-start
+part-power-sum-start c = search needs
 
-part-sum-end : tie.Need-part-sum-end
-part-sum-end c = let n = fits (c .before .before) .seconds in search needs
+part-power-sum-end : tie.Need-part-power-sum-end
+part-power-sum-end c = let n = fits (c .before .before) .seconds in search needs
 
-sum-requires : tie.Need-sum-requires
-sum-requires c κs = search needs
-
-sum-is : (c : tie.After-struct-told) →
-    let a = c .before .before .before .before .before .args in
-    toZ w64 (ofZ w64 (c .before .sum .result .sum)) ≡ sumOf (quarterPowers (a .powers .now) (a .q))
-sum-is c =
-    let s = c .before .before .before .before .before in
+power-sum-requires : tie.Need-power-sum-requires
+power-sum-requires c κs =
+    let s = c .before .before .before in
     let q = s .args .q in
     let n : q * secondsOfQuarter + secondsOfQuarter - q * secondsOfQuarter ≡ secondsOfQuarter = omega arith in
-    let f : SFits w64 (c .before .sum .result .sum) = search needs in
-    let e = (rw n at (c .before .sum .ensures)) ∙ summed-is _ (quarter-summable (fits s) q (s .pre .1)) in
-    toZ-ofZ f ∙ ap (λ (x : Summed). x .sum) e
+    rw n (quarter-powers (fits s) q (s .pre .1), omega (arith, quarter-length (fits s) q (s .pre .1)))
+
+sum-is : (c : tie.After-power-sum) →
+    let a = c .before .before .before .before .args in
+    toZ w64 (ofZ w64 (c .power-sum .result)) ≡ sumOf (quarterPowers (a .powers .now) (a .q))
+sum-is c =
+    let q = c .before .before .before .before .args .q in
+    let n : q * secondsOfQuarter + secondsOfQuarter - q * secondsOfQuarter ≡ secondsOfQuarter = omega arith in
+    back w64 (c .power-sum .ok) (rw n at (c .power-sum .ensures))
 
 price-is : (c : tie.After-signed-price) →
     let a = c .before .before .args in
@@ -75,12 +75,12 @@ price-is c =
 mul-result : tie.Need-mul-result
 unfolding quarterPart
 mul-result c =
-    let s = c .before .before .before .before .before in
-    rw (sum-is c, price-is (c .before .before .before)) (within-fits w64 tt (part-within (fits s) (s .args .q) (s .pre .1)))
+    let s = c .before .before .before .before in
+    rw (sum-is c, price-is (c .before .before)) (within-fits w64 tt (part-within (fits s) (s .args .q) (s .pre .1)))
 
 returns : tie.Need-returns
 unfolding quarterPart
-returns c = rw (toZ-ofZ (mul-result c), sum-is c, price-is (c .before .before .before))
+returns c = rw (toZ-ofZ (mul-result c), sum-is c, price-is (c .before .before))
 
 pub quarter-part-spec : {M : Type 1} → statement M
 quarter-part-spec =
@@ -90,11 +90,11 @@ quarter-part-spec =
     shared-slice-copy-out-target
     signed-price-requires
     mul-start
-    add-sum
-    mul-sum
-    sub-sum
-    part-sum-start
-    part-sum-end
-    sum-requires
+    add-power-sum
+    mul-power-sum
+    sub-power-sum
+    part-power-sum-start
+    part-power-sum-end
+    power-sum-requires
     mul-result
     returns)

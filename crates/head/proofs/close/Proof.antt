@@ -3,7 +3,7 @@ use mathlib.Core.Path.{_≡_, sym, _∙_}
 use borrow.Author.Tests.{eq-eqb, ne-eqb}
 use Rattle.history.specs.Rules.{Call}
 use Rattle.history.specs.Board.{rulingOn, nextOn}
-use Rattle.head.specs.Head.{headRefusal, headedOf}
+use Rattle.head.specs.Inner.{headRefusal, headedOf}
 use borrow.Author.Needs.{needs}
 use Rattle.head.proofs.close.Statement.{statement}
 use Rattle.head.proofs.close.Tie as tie

@@ -10,11 +10,11 @@ use Rattle.head.proofs.fits.Tie as tie
 is-days-requires : tie.Need-is-days-requires
 is-days-requires c κs = search needs
 
-fee-refusal-requires : tie.Need-fee-refusal-requires
-fee-refusal-requires c κs = search needs
+loss-fee-refusal-requires : tie.Need-loss-fee-refusal-requires
+loss-fee-refusal-requires c κs = search needs
 
 returns : tie.Need-returns
-returns c = ap₂ _&&_ (c .before .is-days .ensures) (ap (λ (k : ℕ). eqb k 0) (c .fee-refusal .ensures))
+returns c = ap₂ _&&_ (c .before .is-days .ensures) (ap (λ (k : ℕ). eqb k 0) (c .loss-fee-refusal .ensures))
 
 pub fits-spec : {M : Type 1} → statement M
-fits-spec = tie.close (tie.spec is-days-requires fee-refusal-requires returns)
+fits-spec = tie.close (tie.spec is-days-requires loss-fee-refusal-requires returns)

@@ -3,13 +3,15 @@ use mathlib.Core.Path.{_≡_, sym, _∙_}
 use borrow.Author.Tests.{eq-eqb, ne-eqb}
 use Rattle.history.specs.Rules.{Call}
 use Rattle.history.specs.Board.{rulingOn, nextOn}
-use Rattle.head.specs.Head.{headRefusal, headedOf}
+use Rattle.history.proofs.Orders.{own-last}
+use Rattle.head.specs.Rules.{lossFeeRefusal}
+use Rattle.head.specs.Inner.{headRefusal, headedOf}
 use borrow.Author.Needs.{needs}
 use Rattle.head.proofs.loss_fee.Statement.{statement}
 use Rattle.head.proofs.loss_fee.Tie as tie
 
-fee-refusal-requires : tie.Need-fee-refusal-requires
-fee-refusal-requires c κs = search needs
+loss-fee-refusal-requires : tie.Need-loss-fee-refusal-requires
+loss-fee-refusal-requires c κs = search needs
 
 unless-requires : tie.Need-unless-requires
 unless-requires c κs = search needs
@@ -25,7 +27,8 @@ unfolding rulingOn
 number c =
     let h = c .before in
     let u = h .before in
-    simp (h .fits2 .ensures, u .unless .ensures, u .before .fee-refusal .ensures) at (c .unless2 .ensures)
+    rw (own-last (lossFeeRefusal (c .before .before .before .before .before .args .amount .0)))
+    (simp (h .fits2 .ensures, u .unless .ensures, u .before .loss-fee-refusal .ensures) at (c .unless2 .ensures))
 
 returns : tie.Need-returns
 unfolding headedOf rulingOn nextOn
@@ -39,7 +42,7 @@ pub loss-fee-spec : {M : Type 1} → statement M
 loss-fee-spec =
     tie.close
     (tie.spec
-    fee-refusal-requires
+    loss-fee-refusal-requires
     unless-requires
     fits-requires
     unless-requires-2

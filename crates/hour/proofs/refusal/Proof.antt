@@ -3,7 +3,7 @@ use mir.Syntax.{w64}
 use mir.Val.{SFits}
 use mir.Facts.{toZ-ofZ}
 use borrow.Author.Needs.{needs}
-use Rattle.hour.specs.Hour.{termsRefusal}
+use Rattle.hour.specs.Inner.{termsRefusal}
 use Rattle.hour.proofs.Laws.{bands-test}
 use Rattle.hour.proofs.refusal.Statement.{statement}
 use Rattle.hour.proofs.refusal.Tie as tie

@@ -7,6 +7,7 @@ use mir.Syntax.{w64}
 use mir.Val.{SFits}
 use mir.Facts.{toZ-ofZ}
 use borrow.Author.Needs.{needs}
+use Rattle.units.specs.Limits.{secondsOfHour}
 use Rattle.ramp.specs.Ramp.{planOf}
 use Rattle.ramp.proofs.Laws.{plan-granted}
 use Rattle.score.specs.Run.{runLeft}
@@ -40,7 +41,7 @@ planned c =
     let s = c .before .before .before .before .before .before in
     let t = s .args .t4 .targets in
     let five : length t ≡ 5 = search needs in
-    c .plan .ensures .1 ∙ plan-granted t (replicate 3600 (pos 0)) (record { five = five; long = refl; inside = s .pre })
+    c .plan .ensures .1 ∙ plan-granted t (replicate secondsOfHour (pos 0)) (record { five = five; long = refl; inside = s .pre })
 
 discharge-fits : (c : tie.After-struct-told2) → SFits w64 (c .before .before .before .before .before .before .before .before .before .args .t4 .discharge)
 discharge-fits c = search needs

@@ -8,11 +8,10 @@ use borrow.Author.Needs.{needs}
 use mir.Syntax.{w64}
 use mir.Val.{Fits}
 use Rattle.intake.specs.declared.Line.{Line}
-use Rattle.intake.specs.Lines.{beforeEnd}
+use Rattle.intake.specs.Inner.{beforeEnd, heldIn, keptIn, linesIn, leftIn}
 use Rattle.book.specs.Book.{Book}
 use Rattle.intake.specs.Answers.{answerTo, answersTo}
 use Rattle.book.specs.Inner.{bookOf, coverOf}
-use Rattle.intake.specs.Inner.{heldIn, keptIn, linesIn, leftIn}
 use Rattle.intake.proofs.Going.{Left, left-start, left-line, left-all, left-go, left-stop}
 use Rattle.intake.proofs.answer_all.Statement.{statement}
 use Rattle.intake.proofs.answer_all.Tie as tie

@@ -2,6 +2,7 @@
 use mir.Syntax.{w64}
 use mir.Val.{SFits}
 use mir.Facts.{toZ-ofZ}
+use Rattle.history.proofs.Orders.{own-last}
 use Rattle.joint.specs.Joint.{postedOf}
 use borrow.Author.Needs.{needs}
 use Rattle.joint.proofs.posted.Statement.{statement}
@@ -29,13 +30,14 @@ returns : tie.Need-returns
 unfolding postedOf
 returns c =
     let range = c .before .before .before .before in
-    simp (
+    simp own-last
+    (simp (
       c .before .before .or-else .ensures,
       c .before .before .before .unless .ensures,
       range .within .ensures,
       range .before .before .post .ensures,
       toZ-ofZ (amount-fits (range .before)),
-    ) at (c .join .ensures)
+    ) at (c .join .ensures))
 
 pub posted-spec : {M : Type 1} → statement M
 posted-spec =

@@ -7,8 +7,9 @@ use mir.Facts.{toZ-ofZ}
 use borrow.Author.Needs.{needs}
 use Rattle.whole.proofs.Signed.{signed, inside, back, within-fits}
 use Rattle.loss.specs.Loss.{net, above, percent, basicFee, excessFee, added}
+use Rattle.loss.specs.Accepted.{LossFits}
 use Rattle.whole.proofs.Bounds.{to-within}
-use Rattle.loss.proofs.Laws.{LossFits, loss-fits, net-between, price-between, basic-product, excess-half, excess-product, basic-between, excess-between}
+use Rattle.loss.proofs.Laws.{loss-fits, net-between, price-between, basic-product, excess-half, excess-product, basic-between, excess-between}
 use Rattle.loss.proofs.losses.Statement.{statement}
 use Rattle.loss.proofs.losses.Tie as tie
 

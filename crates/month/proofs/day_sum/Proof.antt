@@ -6,7 +6,7 @@ use lib.ListN.{take, drop}
 use mir.Syntax.{w64}
 use mir.Val.{SFits}
 use mir.Facts.{toZ-ofZ}
-use Rattle.whole.specs.Whole.{summed}
+use Rattle.whole.specs.Inner.{summed}
 use Rattle.units.specs.Limits.{hoursOfDay}
 use Rattle.units.specs.Units.{dollars}
 use borrow.Author.Needs.{needs}

@@ -18,17 +18,14 @@ put-hour-requires c κs = search needs
 enum-known-question-3 : tie.Need-enum-known-question-3
 enum-known-question-3 c = search needs
 
-put-run-requires : tie.Need-put-run-requires
-put-run-requires c κs = search needs
+put-series-requires : tie.Need-put-series-requires
+put-series-requires c κs = search needs
 
 enum-known-question-4 : tie.Need-enum-known-question-4
 enum-known-question-4 c = search needs
 
-answer-requires : tie.Need-answer-requires
-answer-requires c κs = search needs
-
-put-frame-requires : tie.Need-put-frame-requires
-put-frame-requires c κs = search needs
+put-framed-requires : tie.Need-put-framed-requires
+put-framed-requires c κs = search needs
 
 enum-told : tie.Need-enum-told
 enum-told c = search needs
@@ -52,13 +49,13 @@ same-length-3 : tie.Need-same-length-3
 same-length-3 c = search needs
 
 returns-3 : tie.Need-returns-3
-returns-3 c = rw (c .before .before .before .before .before .question3 .given .1) (c .before .before .put-run .ensures)
+returns-3 c = rw (c .before .before .before .before .before .question3 .given .1) (c .before .before .put-series .ensures)
 
 same-length-4 : tie.Need-same-length-4
 same-length-4 c = search needs
 
 returns-4 : tie.Need-returns-4
-returns-4 c = rw (c .before .before .before .before .before .before .question4 .given .1) (rw (c .before .before .before .before .answer .ensures) at (c .before .before .put-frame .ensures))
+returns-4 c = rw (c .before .before .before .before .before .question4 .given .1) (c .before .before .put-framed .ensures)
 
 same-length-5 : tie.Need-same-length-5
 same-length-5 c = search needs
@@ -75,10 +72,9 @@ put-answer-spec =
     enum-known-question-2
     put-hour-requires
     enum-known-question-3
-    put-run-requires
+    put-series-requires
     enum-known-question-4
-    answer-requires
-    put-frame-requires
+    put-framed-requires
     enum-told
     put-alone-requires
     same-length

@@ -5,6 +5,7 @@ use mir.Syntax.{w64}
 use mir.Val.{toZ}
 use mir.Facts.{toZ-ofZ}
 use borrow.Author.Tests.{lt-leb}
+use Rattle.units.specs.Limits.{secondsOfRamp}
 use Rattle.ramp.specs.Ramp.{rampAt}
 use Rattle.ramp.proofs.Laws.{ramp-level}
 use Rattle.ramp.proofs.moving.Statement.{statement}
@@ -18,7 +19,7 @@ returns c =
 
 returns-2 : tie.Need-returns-2
 unfolding rampAt
-returns-2 c = (omega arith, λ n h. rw (lt-leb n 300 h))
+returns-2 c = (omega arith, λ n h. rw (lt-leb n secondsOfRamp h))
 
 pub moving-spec : {M : Type 1} → statement M
 moving-spec = tie.close (tie.spec returns returns-2)

@@ -1,60 +1,87 @@
--- `ramp::ramping` meets its contract: n times the difference is small, and so is its 300th part, rounded. Assumes nothing.
+-- `ramp::ramping` meets its contract: the distance of the targets is small, and so is the part of it that is moved; a ramp that falls is one that rises, turned.
+-- Assumes nothing.
+use Prim.Native.Nat.{ℕ, _*_, _≤_}
 use mathlib.Core.Path.{_≡_}
-use Prim.Native.Nat.{_*_}
 use native.Mathlib.Omega.{arith}
 use lib.IntN.{ℤ, pos, _-ℤ_, _*ℤ_}
 use mir.Syntax.{w64}
+use mir.Val.{toZ, ofZ}
 use mir.Facts.{toZ-ofZ}
-use borrow.Author.Needs.{needs}
 use borrow.Author.Tests.{le-leb}
 use Rattle.whole.specs.Whole.{Within, away}
-use Rattle.whole.proofs.Signed.{signed, back, difference, product, within-fits, within-size}
+use Rattle.whole.proofs.Signed.{signed, back, difference, product, within-size}
 use Rattle.whole.proofs.Rounding.{away-within}
-use Rattle.units.specs.Limits.{mostTransfer}
+use Rattle.units.specs.Limits.{mostTransfer, secondsOfRamp}
 use Rattle.ramp.specs.Ramp.{rampAt}
+use Rattle.ramp.proofs.Falling.{falling}
 use Rattle.ramp.proofs.ramping.Statement.{statement}
 use Rattle.ramp.proofs.ramping.Tie as tie
 
--- n times the difference, of the parameters themselves
-abbrev part : tie.Start → ℤ
-part s = (s .args .target -ℤ s .args .last) *ℤ pos (s .args .n)
+-- two targets are so far apart, and a second's part of the way is no more
+apart : {x y : ℤ} → Within mostTransfer x → Within mostTransfer y → Within (2 * mostTransfer) (x -ℤ y)
+apart {x} {y} a b = omega (arith, difference x y)
 
-part-within : (s : tie.Start) → Within (2 * mostTransfer * 300) (part s)
-part-within s =
-    let d : Within (2 * mostTransfer) (s .args .target -ℤ s .args .last) = omega (arith, difference (s .args .target) (s .args .last)) in
-    let n : Within 300 (pos (s .args .n)) = omega arith in
-    product d n
+moved : {z : ℤ} {n : ℕ} → Within (2 * mostTransfer) z → n ≤ secondsOfRamp → Within (2 * mostTransfer) (away (z *ℤ pos n) secondsOfRamp)
+moved {z} {n} d h = let m : Within secondsOfRamp (pos n) = omega arith in away-within (z *ℤ pos n) secondsOfRamp (2 * mostTransfer) (omega arith) (within-size (product d m))
 
-sub-away : tie.Need-sub-away
-sub-away c = omega signed
+sub-ramped : tie.Need-sub-ramped
+sub-ramped c = omega signed
 
-cast-away : tie.Need-cast-away
-cast-away c = search needs
-
-mul-away : tie.Need-mul-away
-mul-away c =
-    rw (toZ-ofZ (sub-away c), toZ-ofZ (cast-away c), toZ-ofZ (c .fits .target), toZ-ofZ (c .fits .last))
-    (within-fits w64 tt (part-within c))
-
-away-requires : tie.Need-away-requires
-away-requires c κs = search needs
-
-step : (c : tie.After-away) → c .away .result ≡ away (part (c .before)) 300
-step c =
+ramped-requires : tie.Need-ramped-requires
+ramped-requires c κs =
     let s = c .before in
-    rw (toZ-ofZ (mul-away s), toZ-ofZ (sub-away s), toZ-ofZ (cast-away s), toZ-ofZ (s .fits .target), toZ-ofZ (s .fits .last)) at (c .away .ensures)
+    (rw (toZ-ofZ (sub-ramped c), toZ-ofZ (s .fits .target), toZ-ofZ (s .fits .last)) (apart (s .pre .1 .0) (s .pre .0)), s .pre .1 .1)
+
+-- the part that is moved, of the parameters themselves
+risen : (c : tie.After-ramped) → let a = c .before .before .args in toZ w64 (ofZ w64 (c .ramped .result)) ≡ away ((a .target -ℤ a .last) *ℤ pos (a .n)) secondsOfRamp
+risen c =
+    let s = c .before .before in
+    back w64 (c .ramped .ok) (rw (toZ-ofZ (sub-ramped (c .before)), toZ-ofZ (s .fits .target), toZ-ofZ (s .fits .last)) at (c .ramped .ensures))
 
 add-result : tie.Need-add-result
 add-result c =
-    let s = c .before in
-    let w = away-within (part s) 300 (2 * mostTransfer) (omega arith) (within-size (part-within s)) in
-    rw (back w64 (c .away .ok) (step c), toZ-ofZ (s .fits .last)) (omega signed)
+    let s = c .before .before in
+    let w = moved (apart (s .pre .1 .0) (s .pre .0)) (s .pre .1 .1) in
+    rw (risen c, toZ-ofZ (s .fits .last)) (omega signed)
 
 returns : tie.Need-returns
 unfolding rampAt
-returns c =
+returns c = let s = c .before .before in rw (toZ-ofZ (add-result c), risen c, toZ-ofZ (s .fits .last), le-leb (s .args .n) secondsOfRamp (s .pre .1 .1))
+
+sub-ramped-2 : tie.Need-sub-ramped-2
+sub-ramped-2 c = omega signed
+
+ramped-requires-2 : tie.Need-ramped-requires-2
+ramped-requires-2 c κs =
     let s = c .before in
-    rw (toZ-ofZ (add-result c), back w64 (c .away .ok) (step c), toZ-ofZ (s .fits .last), le-leb (s .args .n) 300 (s .pre .1 .1))
+    (rw (toZ-ofZ (sub-ramped-2 c), toZ-ofZ (s .fits .target), toZ-ofZ (s .fits .last)) (apart (s .pre .0) (s .pre .1 .0)), s .pre .1 .1)
+
+fallen : (c : tie.After-ramped2) → let a = c .before .before .args in toZ w64 (ofZ w64 (c .ramped2 .result)) ≡ away ((a .last -ℤ a .target) *ℤ pos (a .n)) secondsOfRamp
+fallen c =
+    let s = c .before .before in
+    back w64 (c .ramped2 .ok) (rw (toZ-ofZ (sub-ramped-2 (c .before)), toZ-ofZ (s .fits .target), toZ-ofZ (s .fits .last)) at (c .ramped2 .ensures))
+
+sub-result : tie.Need-sub-result
+sub-result c =
+    let s = c .before .before in
+    let w = moved (apart (s .pre .0) (s .pre .1 .0)) (s .pre .1 .1) in
+    rw (fallen c, toZ-ofZ (s .fits .last)) (omega signed)
+
+returns-2 : tie.Need-returns-2
+unfolding rampAt
+returns-2 c =
+    let s = c .before .before in
+    rw (toZ-ofZ (sub-result c), fallen c, toZ-ofZ (s .fits .last), le-leb (s .args .n) secondsOfRamp (s .pre .1 .1)) (falling (s .args .last) (s .args .target) (s .args .n))
 
 pub ramping-spec : {M : Type 1} → statement M
-ramping-spec = tie.close (tie.spec sub-away cast-away mul-away away-requires add-result returns)
+ramping-spec =
+    tie.close
+    (tie.spec
+    sub-ramped
+    ramped-requires
+    add-result
+    returns
+    sub-ramped-2
+    ramped-requires-2
+    sub-result
+    returns-2)

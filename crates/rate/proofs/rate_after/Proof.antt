@@ -10,7 +10,8 @@ use Rattle.whole.specs.Folds.{allTo}
 use Rattle.whole.proofs.Folds.{fold-none, fold-step}
 use Rattle.whole.proofs.Runs.{rest, no-rest}
 use Rattle.units.specs.Limits.{mostScore}
-use Rattle.rate.specs.Rolling.{smallestFrom, carried, isScoreAt, areScores, rateAfter}
+use Rattle.rate.specs.Rolling.{smallestFrom, isScoreAt, areScores}
+use Rattle.rate.specs.Inner.{carried, rateAfter}
 use Rattle.rate.proofs.rate_after.Statement.{statement}
 use Rattle.rate.proofs.rate_after.Tie as tie
 

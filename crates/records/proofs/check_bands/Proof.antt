@@ -35,7 +35,7 @@ use denote.Triple.Walked.{says, Stays, stay-none-slice, walkOf, goes-none-slice,
 use denote.Triple.Clauses.{ensured, lasts}
 use denote.Exit.{yes}
 use Rattle.records.specs.Records.{recordsRefusal}
-use Rattle.records.specs.Gathered.{none, gathered, refusalIn}
+use Rattle.records.specs.Inner.{none, gathered, refusalIn}
 use Rattle.records.specs.declared.Band.{Band}
 use Rattle.records.specs.declared.Columns.{Columns}
 use Rattle.records.proofs.Gathering.{refusal-in}

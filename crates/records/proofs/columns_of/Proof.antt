@@ -49,7 +49,7 @@ use denote.Triple.Table.{entered, cited}
 use denote.Triple.Walked.{says, Stays, stay-none-slice, walkOf, goes-none-slice, Walks, ends-at, walked, walk-meets}
 use denote.Triple.Clauses.{ensured, lasts}
 use denote.Exit.{yes}
-use Rattle.records.specs.Gathered.{none, next, gathered}
+use Rattle.records.specs.Inner.{none, next, gathered}
 use Rattle.records.specs.declared.Band.{Band}
 use Rattle.records.specs.declared.Columns.{Columns}
 use Rattle.records.proofs.Band as B

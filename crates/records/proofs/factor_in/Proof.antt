@@ -7,7 +7,7 @@ use borrow.Author.Tests.{lt-leb, le-leb}
 use borrow.Author.Needs.{needs}
 use Rattle.units.specs.Limits.{mostBands}
 use Rattle.bands.specs.Bands.{withFactor}
-use Rattle.records.specs.Gathered.{gatheredAnswer}
+use Rattle.records.specs.Inner.{gatheredAnswer}
 use Rattle.records.proofs.factor_in.Statement.{statement}
 use Rattle.records.proofs.factor_in.Tie as tie
 

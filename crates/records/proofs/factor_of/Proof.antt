@@ -35,7 +35,7 @@ use denote.Triple.Walked.{says, Stays, stay-none-slice, stay-none, walkOf, goes-
 use denote.Triple.Clauses.{ensured, lasts}
 use denote.Exit.{yes}
 use Rattle.records.specs.Records.{recordsAnswer}
-use Rattle.records.specs.Gathered.{none, gathered, gatheredAnswer}
+use Rattle.records.specs.Inner.{none, gathered, gatheredAnswer}
 use Rattle.records.specs.declared.Band.{Band}
 use Rattle.records.specs.declared.Columns.{Columns}
 use Rattle.bands.specs.declared.Factored.{Factored}

@@ -1,6 +1,6 @@
 -- `records::none` meets its contract: it is the definition's record. Assumes nothing.
 use mathlib.Core.Path.{refl}
-use Rattle.records.specs.Gathered.{none}
+use Rattle.records.specs.Inner.{none}
 use Rattle.records.proofs.none.Statement.{statement}
 use Rattle.records.proofs.none.Tie as tie
 

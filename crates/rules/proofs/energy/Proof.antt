@@ -1,4 +1,4 @@
--- `rules::energy` meets its contract: the library's answer, field by field. Assumes nothing.
+-- `rules::energy` meets its contract: the library's answer, as any fee's is printed. Assumes nothing.
 use lib.IntN.{pos}
 use lib.ListN.{getD}
 use mir.Syntax.{w64}
@@ -12,8 +12,8 @@ use Rattle.rules.proofs.energy.Tie as tie
 array-copy-out-discharge : tie.Need-array-copy-out-discharge
 array-copy-out-discharge c = search needs
 
-array-copy-out-charge : tie.Need-array-copy-out-charge
-array-copy-out-charge c = search needs
+array-copy-out-charging : tie.Need-array-copy-out-charging
+array-copy-out-charging c = search needs
 
 sub-energy-fee : tie.Need-sub-energy-fee
 sub-energy-fee c = search needs
@@ -27,28 +27,27 @@ part-energy-fee-end c = search needs
 energy-fee-requires : tie.Need-energy-fee-requires
 energy-fee-requires c κs = search needs
 
-few-requires : tie.Need-few-requires
-few-requires c κs = search needs
+charge-requires : tie.Need-charge-requires
+charge-requires c κs = search needs
 
 returns : tie.Need-returns
 unfolding energyReply
 returns c =
-    let r = c .before .before .before .energy-fee in
-    let dollars : SFits w64 (r .result .dollars .0) = search needs in
-    let head = c .before .before .before .before .before .before .before .before .args .t1 in
+    let r = c .before .energy-fee in
+    let head = c .before .before .before .before .before .before .args .t1 in
     let n0 : SFits w64 (getD head 0 (pos 0)) = search needs in
     let n1 : SFits w64 (getD head 1 (pos 0)) = search needs in
-    rw (c .few .ensures, toZ-ofZ dollars, r .ensures, toZ-ofZ n0, toZ-ofZ n1)
+    rw (c .charge .ensures, r .ensures, toZ-ofZ n0, toZ-ofZ n1)
 
 pub energy-spec : {M : Type 1} → statement M
 energy-spec =
     tie.close
     (tie.spec
     array-copy-out-discharge
-    array-copy-out-charge
+    array-copy-out-charging
     sub-energy-fee
     part-energy-fee-start
     part-energy-fee-end
     energy-fee-requires
-    few-requires
+    charge-requires
     returns)

@@ -1,4 +1,4 @@
--- `rules::fee` meets its contract: the library's answer, field by field. Assumes nothing.
+-- `rules::fee` meets its contract: the library's answer, as any fee's is printed. Assumes nothing.
 use lib.IntN.{pos}
 use lib.ListN.{getD}
 use mir.Syntax.{w64}
@@ -12,25 +12,24 @@ use Rattle.rules.proofs.fee.Tie as tie
 array-copy-out-fee : tie.Need-array-copy-out-fee
 array-copy-out-fee c = search needs
 
-array-copy-out-t10 : tie.Need-array-copy-out-t10
-array-copy-out-t10 c = search needs
+array-copy-out-t9 : tie.Need-array-copy-out-t9
+array-copy-out-t9 c = search needs
 
 fee-requires : tie.Need-fee-requires
 fee-requires c κs = search needs
 
-few-requires : tie.Need-few-requires
-few-requires c κs = search needs
+charge-requires : tie.Need-charge-requires
+charge-requires c κs = search needs
 
 returns : tie.Need-returns
 unfolding feeReply
 returns c =
-    let r = c .before .before .before .fee in
-    let dollars : SFits w64 (r .result .dollars .0) = search needs in
-    let head = c .before .before .before .before .before .before .args .t1 in
+    let r = c .before .fee in
+    let head = c .before .before .before .before .args .t1 in
     let n0 : SFits w64 (getD head 0 (pos 0)) = search needs in
     let n1 : SFits w64 (getD head 1 (pos 0)) = search needs in
-    rw (c .few .ensures, toZ-ofZ dollars, r .ensures, toZ-ofZ n0, toZ-ofZ n1)
+    rw (c .charge .ensures, r .ensures, toZ-ofZ n0, toZ-ofZ n1)
 
 pub fee-spec : {M : Type 1} → statement M
 fee-spec =
-    tie.close (tie.spec array-copy-out-fee array-copy-out-t10 fee-requires few-requires returns)
+    tie.close (tie.spec array-copy-out-fee array-copy-out-t9 fee-requires charge-requires returns)

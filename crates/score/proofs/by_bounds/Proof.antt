@@ -12,20 +12,21 @@ use Rattle.whole.proofs.Rounding.{nearest-within}
 use Rattle.whole.proofs.Signed.{back, size, times, difference, within-size}
 use Rattle.units.specs.Limits.{mostCapacity, mostPower, mostTransfer}
 use Rattle.score.specs.Score.{percentOutput}
+use Rattle.score.specs.Inner.{mostOutput}
 use Rattle.score.proofs.by_bounds.Statement.{statement}
 use Rattle.score.proofs.by_bounds.Tie as tie
 
 -- percent output is at most 300,000 kW over 1 kW
 output-within : (power transfer capacity : ℤ) → Within mostPower power → Within mostTransfer transfer → Between (pos 1) (pos mostCapacity) capacity
-    → Within 30000000 (percentOutput power transfer capacity)
+    → Within mostOutput (percentOutput power transfer capacity)
 unfolding percentOutput
 output-within power transfer capacity p t c =
     let n = (power -ℤ transfer) *ℤ pos 100 in
     let some : 0 < natAbs capacity = omega (arith, size capacity) in
-    let w : Within 30000000 n = omega (arith, times 100 (power -ℤ transfer), difference power transfer) in
-    let s : natAbs n ≤ 30000000 = within-size w in
-    let l : natAbs n ≤ 30000000 * natAbs capacity = omega arith in
-    nearest-within n (natAbs capacity) 30000000 some l
+    let w : Within mostOutput n = omega (arith, times 100 (power -ℤ transfer), difference power transfer) in
+    let s : natAbs n ≤ mostOutput = within-size w in
+    let l : natAbs n ≤ mostOutput * natAbs capacity = omega arith in
+    nearest-within n (natAbs capacity) mostOutput some l
 
 percent-output-requires : tie.Need-percent-output-requires
 percent-output-requires c κs = search needs

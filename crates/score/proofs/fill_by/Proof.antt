@@ -13,7 +13,8 @@ use Rattle.whole.proofs.Runs.{filled-next, filled-all}
 use Rattle.score.specs.Run.{runScoreAt}
 use Rattle.score.specs.declared.Scored.{Scored}
 use Rattle.score.proofs.Laws.{second-granted}
-use Rattle.score.proofs.Run.{RunFit, run-fit, run-second, run-scores-is}
+use Rattle.score.proofs.Run.{run-fit, run-second, run-scores-is}
+use Rattle.score.specs.Accepted.{RunFits}
 use Rattle.score.proofs.fill_by.Statement.{statement}
 use Rattle.score.proofs.fill_by.Tie as tie
 
@@ -24,7 +25,7 @@ Inv-loop pairs powers frequencies transfers capacity inverse scores₀ i₀ scor
 abbrev μ-loop : tie.MeasureT-loop
 μ-loop pairs powers frequencies transfers capacity inverse scores₀ i₀ scores i = length powers - i
 
-fit : (s : tie.Start Inv-loop μ-loop) → RunFit (s .args .powers .now) (s .args .frequencies .now) (s .args .transfers .now) (s .args .capacity) (length (s .args .scores .now))
+fit : (s : tie.Start Inv-loop μ-loop) → RunFits (s .args .powers .now) (s .args .frequencies .now) (s .args .transfers .now) (s .args .capacity) (length (s .args .scores .now))
 fit s = run-fit _ _ _ _ _ (s .pre .1 .1)
 
 loop-holds : tie.Need-loop-holds Inv-loop μ-loop

@@ -9,7 +9,7 @@ use mir.Val.{SFits}
 use mir.Facts.{toZ-ofZ}
 use borrow.Author.Needs.{needs}
 use Rattle.whole.proofs.Signed.{size}
-use Rattle.score.specs.Inverse.{inverseOf}
+use Rattle.score.specs.Inner.{scale, inverseOf}
 use Rattle.score.proofs.inverse.Statement.{statement}
 use Rattle.score.proofs.inverse.Tie as tie
 
@@ -29,7 +29,7 @@ div-result : tie.Need-div-result
 div-result c = let e = size-is c in omega (arith, size (c .before .before .args .capacity .0))
 
 add-result : tie.Need-add-result
-add-result c = record { fits = omega (arith, div-le-self 17592186044416 (2 * c .size .result)) }
+add-result c = record { fits = omega (arith, div-le-self scale (2 * c .size .result)) }
 
 returns : tie.Need-returns
 unfolding inverseOf

@@ -10,11 +10,12 @@ use Rattle.curve.specs.Curve.{upperAt, lowerAt, boundsAt}
 use Rattle.curve.specs.declared.Bounds.{Bounds}
 use Rattle.curve.proofs.Limits.{upper-within, lower-within, bounds-ordered, curve-is}
 use Rattle.score.specs.Score.{judgedBy}
-use Rattle.score.proofs.Laws.{Fit, second-fit}
+use Rattle.score.proofs.Laws.{second-fit}
+use Rattle.score.specs.Accepted.{SecondFits}
 use Rattle.score.proofs.judged_by.Statement.{statement}
 use Rattle.score.proofs.judged_by.Tie as tie
 
-fit : (s : tie.Start) → Fit (s .args .power) (s .args .transfer) (s .args .capacity) (s .args .frequency)
+fit : (s : tie.Start) → SecondFits (s .args .power) (s .args .transfer) (s .args .capacity) (s .args .frequency)
 fit s = second-fit (s .args .power) (s .args .transfer) (s .args .capacity) (s .args .frequency) (s .pre)
 
 curve-requires : tie.Need-curve-requires

@@ -13,11 +13,12 @@ use Rattle.whole.proofs.Sums.{in-within}
 use Rattle.curve.specs.Curve.{upperAt, lowerAt}
 use Rattle.curve.proofs.Limits.{place-within, pair-inside, upper-in, lower-in, upper-within, lower-within, bounds-ordered}
 use Rattle.score.specs.Score.{judgedBy}
-use Rattle.score.proofs.Laws.{Fit, second-fit}
+use Rattle.score.proofs.Laws.{second-fit}
+use Rattle.score.specs.Accepted.{SecondFits}
 use Rattle.score.proofs.judged_in.Statement.{statement}
 use Rattle.score.proofs.judged_in.Tie as tie
 
-fit : (s : tie.Start) → Fit (s .args .power) (s .args .transfer) (s .args .capacity) (s .args .frequency)
+fit : (s : tie.Start) → SecondFits (s .args .power) (s .args .transfer) (s .args .capacity) (s .args .frequency)
 fit s = second-fit (s .args .power) (s .args .transfer) (s .args .capacity) (s .args .frequency) (s .pre .1 .1)
 
 place-requires : tie.Need-place-requires

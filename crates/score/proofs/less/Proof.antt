@@ -7,6 +7,7 @@ use lib.IntN.{pos, natAbs, _-ℤ_}
 use lib.Signed.{ltZ, leZ}
 use mir.Facts.{toZ-ofZ}
 use Rattle.whole.proofs.Signed.{signed, difference, size, not-negative}
+use Rattle.units.specs.Limits.{mostScore}
 use Rattle.score.proofs.less.Statement.{statement}
 use Rattle.score.proofs.less.Tie as tie
 
@@ -19,11 +20,11 @@ returns c =
 returns-2 : tie.Need-returns-2
 returns-2 c =
     let d = c .before .before .args .distance in
-    let t : leZ (pos 100) d ≡ true = rw (toZ-ofZ (c .before .before .fits .distance)) at (c .if2 .taken) in
+    let t : leZ (pos mostScore) d ≡ true = rw (toZ-ofZ (c .before .before .fits .distance)) at (c .if2 .taken) in
     omega signed
 
 -- from 0 to 99
-left : (c : tie.Else2) → let d = c .before .before .args .distance in (ltZ d (pos 0) ≡ false) × (leZ (pos 100) d ≡ false)
+left : (c : tie.Else2) → let d = c .before .before .args .distance in (ltZ d (pos 0) ≡ false) × (leZ (pos mostScore) d ≡ false)
 left c =
     let f = c .before .before .fits .distance in
     (rw (toZ-ofZ f) at (c .before .if1 .left), rw (toZ-ofZ f) at (c .if2 .left))
@@ -35,16 +36,16 @@ cast-result : tie.Need-cast-result
 cast-result c =
     let d = c .before .before .args .distance in
     let l = left c in
-    let e = difference (pos 100) d in
-    let small : natAbs (pos 100 -ℤ d) ≤ 100 = omega (signed, size (pos 100 -ℤ d)) in
-    rw (toZ-ofZ (sub-result c), toZ-ofZ (c .before .before .fits .distance)) (not-negative (pos 100 -ℤ d) (omega signed), record { fits = omega arith })
+    let e = difference (pos mostScore) d in
+    let small : natAbs (pos mostScore -ℤ d) ≤ mostScore = omega (signed, size (pos mostScore -ℤ d)) in
+    rw (toZ-ofZ (sub-result c), toZ-ofZ (c .before .before .fits .distance)) (not-negative (pos mostScore -ℤ d) (omega signed), record { fits = omega arith })
 
 returns-3 : tie.Need-returns-3
 returns-3 c =
     let d = c .before .before .args .distance in
     let l = left c in
-    let e = difference (pos 100) d in
-    rw (toZ-ofZ (sub-result c), toZ-ofZ (c .before .before .fits .distance)) (omega (signed, size (pos 100 -ℤ d)))
+    let e = difference (pos mostScore) d in
+    rw (toZ-ofZ (sub-result c), toZ-ofZ (c .before .before .fits .distance)) (omega (signed, size (pos mostScore -ℤ d)))
 
 pub less-spec : {M : Type 1} → statement M
 less-spec = tie.close (tie.spec returns returns-2 sub-result cast-result returns-3)

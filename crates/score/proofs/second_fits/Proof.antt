@@ -1,7 +1,7 @@
 -- `score::second_fits` meets its contract: its tests are the definition's. Assumes nothing.
 use mir.Facts.{toZ-ofZ}
 use borrow.Author.Needs.{needs}
-use Rattle.score.specs.Run.{secondFits}
+use Rattle.score.specs.Inner.{secondFits}
 use Rattle.score.proofs.second_fits.Statement.{statement}
 use Rattle.score.proofs.second_fits.Tie as tie
 

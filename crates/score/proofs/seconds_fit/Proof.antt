@@ -13,7 +13,7 @@ use borrow.Author.Tests.{not-true, not-false}
 use Rattle.whole.specs.Folds.{allTo}
 use Rattle.whole.proofs.Choice.{both}
 use Rattle.whole.proofs.Folds.{fold-none, fold-step, all-fails}
-use Rattle.score.specs.Run.{fitAt}
+use Rattle.score.specs.Inner.{fitAt}
 use Rattle.score.proofs.seconds_fit.Statement.{statement}
 use Rattle.score.proofs.seconds_fit.Tie as tie
 

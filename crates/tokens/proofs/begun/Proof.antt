@@ -9,12 +9,12 @@ use Rattle.tokens.proofs.begun.Tie as tie
 is-letter-requires : tie.Need-is-letter-requires
 is-letter-requires c κs = search needs
 
-spelled-requires : tie.Need-spelled-requires
-spelled-requires c κs = search needs
+word-with-requires : tie.Need-word-with-requires
+word-with-requires c κs = search needs
 
 returns : tie.Need-returns
 unfolding begun
-returns c = rw (c .spelled .ensures, sym (c .before .before .is-letter .ensures) ∙ c .before .if1 .taken)
+returns c = rw (c .word-with .ensures, sym (c .before .before .is-letter .ensures) ∙ c .before .if1 .taken)
 
 returns-2 : tie.Need-returns-2
 unfolding begun
@@ -32,4 +32,4 @@ returns-3 c =
 pub begun-spec : {M : Type 1} → statement M
 begun-spec =
     tie.close
-    (tie.spec is-letter-requires spelled-requires returns returns-2 numbered-requires returns-3)
+    (tie.spec is-letter-requires word-with-requires returns returns-2 numbered-requires returns-3)

@@ -15,8 +15,8 @@ enum-told-2 c = search needs
 enum-known-token : tie.Need-enum-known-token
 enum-known-token c = search needs
 
-spelled-requires : tie.Need-spelled-requires
-spelled-requires c κs = search needs
+word-with-requires : tie.Need-word-with-requires
+word-with-requires c κs = search needs
 
 enum-told-3 : tie.Need-enum-told-3
 enum-told-3 c = search needs
@@ -46,7 +46,7 @@ returns-2 : tie.Need-returns-2
 returns-2 c = search needs
 
 returns-3 : tie.Need-returns-3
-returns-3 c = rw (c .before .before .token .given .1, c .spelled .ensures)
+returns-3 c = rw (c .before .before .token .given .1, c .word-with .ensures)
 
 returns-4 : tie.Need-returns-4
 returns-4 c = rw (c .before .enum-told3 .given .1) (c .lowered .ensures)
@@ -68,7 +68,7 @@ grown-spec =
     begun-requires
     enum-told-2
     enum-known-token
-    spelled-requires
+    word-with-requires
     enum-told-3
     lowered-requires
     enum-known-token-2

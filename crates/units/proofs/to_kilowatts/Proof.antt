@@ -5,8 +5,8 @@ use mir.Syntax.{w64}
 use mir.Val.{SFits}
 use mir.Facts.{toZ-ofZ}
 use borrow.Author.Needs.{needs}
-use Rattle.whole.specs.Whole.{minus, inRange}
 use Rattle.whole.proofs.Signed.{signed, inside, opposite}
+use Rattle.units.specs.Limits.{mostAward, isAward}
 use Rattle.units.specs.Units.{inKilowatts}
 use Rattle.units.proofs.to_kilowatts.Statement.{statement}
 use Rattle.units.proofs.to_kilowatts.Tie as tie
@@ -18,14 +18,14 @@ figure-fits : (c : tie.After-struct-told) → SFits w64 (c .before .args .award 
 figure-fits c = search needs
 
 -- what the test found
-found : (c : tie.After-within) → inRange (minus 100) (pos 100) (c .before .before .args .award .0) ≡ c .within .result
+found : (c : tie.After-within) → isAward (c .before .before .args .award .0) ≡ c .within .result
 found c = sym (rw (toZ-ofZ (figure-fits (c .before))) at (c .within .ensures))
 
 mul-t4 : tie.Need-mul-t4
 mul-t4 c =
     let f = figure-fits (c .before .before) in
     let b = inside (found (c .before) ∙ c .if1 .taken) in
-    omega (signed, opposite (pos 100))
+    omega (signed, opposite (pos mostAward))
 
 returns : tie.Need-returns
 unfolding inKilowatts

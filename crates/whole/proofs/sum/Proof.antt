@@ -13,7 +13,8 @@ use mir.Facts.{toZ-ofZ}
 use borrow.Author.Needs.{needs}
 use borrow.Author.Tests.{not-true, not-false, le-leb, lt-leb}
 use Rattle.whole.specs.Folds.{allTo, sumTo}
-use Rattle.whole.specs.Whole.{minus, Within, inRange, allInRange, summed}
+use Rattle.whole.specs.Whole.{minus, Within, inRange, allInRange}
+use Rattle.whole.specs.Inner.{mostTerms, mostTerm, summed}
 use Rattle.whole.proofs.Choice.{both}
 use Rattle.whole.proofs.Folds.{fold-none, fold-step, all-at, all-fails}
 use Rattle.whole.proofs.Signed.{signed}
@@ -22,7 +23,7 @@ use Rattle.whole.proofs.sum.Statement.{statement}
 use Rattle.whole.proofs.sum.Tie as tie
 
 abbrev small : List ℤ → ℕ → Bool
-small run i = inRange (minus 1000000000000) (pos 1000000000000) (getD run i (pos 0))
+small run i = inRange (minus mostTerm) (pos mostTerm) (getD run i (pos 0))
 
 abbrev at : List ℤ → ℕ → ℤ
 at run i = getD run i (pos 0)
@@ -62,7 +63,7 @@ unfolding summed allInRange
 returns-2 c =
     let l = c .before .before .before .before in
     let run = l .before .before .args .run .now in
-    let e : allInRange (minus 1000000000000) (pos 1000000000000) run ≡ false =
+    let e : allInRange (minus mostTerm) (pos mostTerm) run ≡ false =
     all-fails (length run) (small run) (l .loop .i) (omega arith) (sym (found (c .before)) ∙ not-true _ (c .if2 .taken)) in
     rw (e, and-false)
 
@@ -75,9 +76,9 @@ add-sum c =
     let l = c .before .before .before .before in
     let run = l .before .before .args .run .now in
     let i = l .loop .i in
-    let each : (k : ℕ) → k < i + 1 → Within 1000000000000 (at run k) = λ k h. in-within (all-at (i + 1) (small run) (so-far c) k h) in
-    let w : Within (1000000000000 * i) (sumTo i (at run)) = sum-within i (at run) (λ k h. each k (omega arith)) in
-    let x : Within 1000000000000 (at run i) = each i (omega arith) in
+    let each : (k : ℕ) → k < i + 1 → Within mostTerm (at run k) = λ k h. in-within (all-at (i + 1) (small run) (so-far c) k h) in
+    let w : Within (mostTerm * i) (sumTo i (at run)) = sum-within i (at run) (λ k h. each k (omega arith)) in
+    let x : Within mostTerm (at run i) = each i (omega arith) in
     rw (toZ-ofZ (at-fits (c .before .before)), l .loop .inv .2) (omega signed)
 
 add-i : tie.Need-add-i Inv-loop μ-loop
@@ -97,9 +98,9 @@ returns-3 c =
     let l = c .before in
     let run = l .before .before .args .run .now in
     let n : l .loop .i ≡ length run = omega arith in
-    let e : allInRange (minus 1000000000000) (pos 1000000000000) run ≡ true = rw n at (l .loop .inv .1) in
+    let e : allInRange (minus mostTerm) (pos mostTerm) run ≡ true = rw n at (l .loop .inv .1) in
     let s : toZ w64 (l .loop .sum) ≡ sumTo (length run) (at run) = rw n at (l .loop .inv .2) in
-    rw (le-leb (length run) 1000000 (l .before .if1 .left), e, s)
+    rw (le-leb (length run) mostTerms (l .before .if1 .left), e, s)
 
 pub sum-spec : {M : Type 1} → statement M
 sum-spec =

@@ -7,16 +7,22 @@ use Rattle.figures.proofs.score_cases.repeat.Statement.{statement}
 use Rattle.figures.proofs.score_cases.repeat.Tie as tie
 
 abbrev Inv-loop : tie.InvT-loop
-Inv-loop pattern scores₀ i₀ scores i = length scores ≡ length scores₀
+Inv-loop eleven scores₀ from to i₀ scores i = length scores ≡ length scores₀
 
 abbrev μ-loop : tie.MeasureT-loop
-μ-loop pattern scores₀ i₀ scores i = length scores₀ - i
+μ-loop eleven scores₀ from to i₀ scores i = length scores₀ - i
 
 loop-holds : tie.Need-loop-holds Inv-loop μ-loop
 loop-holds c = search needs
 
+slice-read-old : tie.Need-slice-read-old Inv-loop μ-loop
+slice-read-old c = search needs
+
 at-requires : tie.Need-at-requires Inv-loop μ-loop
 at-requires c κs = search needs
+
+chosen-score-requires : tie.Need-chosen-score-requires Inv-loop μ-loop
+chosen-score-requires c κs = search needs
 
 slice-write-scores : tie.Need-slice-write-scores Inv-loop μ-loop
 slice-write-scores c = search needs
@@ -43,7 +49,9 @@ repeat-spec =
     Inv-loop
     μ-loop
     loop-holds
+    slice-read-old
     at-requires
+    chosen-score-requires
     slice-write-scores
     add-i
     loop-less

@@ -5,17 +5,17 @@ use native.Mathlib.Omega.{arith}
 use mathlib.Core.Path.{_≡_, refl}
 use mathlib.Core.List.{_++_}
 use lib.ListN.{length, take, drop, length-set}
-use Rattle.frame.specs.Digits.{hexDigitOf, sixteen, digitsOf}
+use Rattle.frame.specs.Digits.{digitsOf}
 use Rattle.frame.proofs.Digits.{encode-next, encode-done}
 use Rattle.frame.proofs.digit.encode.Statement.{statement}
 use Rattle.frame.proofs.digit.encode.Tie as tie
 
 abbrev Inv-loop : tie.InvT-loop
-Inv-loop bytes line₀ digits i₀ line i =
+Inv-loop bytes line₀ i₀ line i =
     (i ≤ length bytes) × (length line ≡ length line₀) × (take (2 * i) line ++ digitsOf (drop i bytes) ≡ digitsOf bytes)
 
 abbrev μ-loop : tie.MeasureT-loop
-μ-loop bytes line₀ digits i₀ line i = length bytes - i
+μ-loop bytes line₀ i₀ line i = length bytes - i
 
 loop-holds : tie.Need-loop-holds Inv-loop μ-loop
 loop-holds c = (omega arith, refl, refl)
@@ -24,8 +24,7 @@ shared-slice-read-b : tie.Need-shared-slice-read-b Inv-loop μ-loop
 shared-slice-read-b c = omega arith
 
 digit-requires : tie.Need-digit-requires Inv-loop μ-loop
-unfolding hexDigitOf sixteen
-digit-requires c κs = (omega (arith, c .before .shared-slice-known2 .given (c .before .before .before .loop .i)), refl)
+digit-requires c κs = omega (arith, c .shared-slice-known2 .given (c .before .before .loop .i))
 
 mul-line : tie.Need-mul-line Inv-loop μ-loop
 mul-line c = omega arith
@@ -34,8 +33,7 @@ slice-write-line : tie.Need-slice-write-line Inv-loop μ-loop
 slice-write-line c = omega arith
 
 digit-requires-2 : tie.Need-digit-requires-2 Inv-loop μ-loop
-unfolding hexDigitOf sixteen
-digit-requires-2 c κs = (omega arith, refl)
+digit-requires-2 c κs = omega arith
 
 mul-line-2 : tie.Need-mul-line-2 Inv-loop μ-loop
 mul-line-2 c = omega arith
@@ -54,11 +52,11 @@ loop-less c = omega arith
 
 loop-again : tie.Need-loop-again Inv-loop μ-loop
 loop-again c =
-    let t = c .before .before .before .before .before in
+    let t = c .before .before .before in
     let l = t .before .loop in (
       omega arith,
       simp length-set (l .inv .1),
-      rw (c .before .before .digit .ensures, c .digit2 .ensures)
+      rw (c .before .digit .ensures, c .digit2 .ensures)
           (encode-next _ _ _ _ (t .before .before .before .before .pre) (l .inv .1) (l .inv .2) (t .loop-test .taken)),
     )
 

@@ -3,7 +3,7 @@ use Prim.Native.Nat.{_+_, _-_}
 use native.Mathlib.Omega.{arith}
 use mathlib.Core.Path.{_≡_, refl, sym, _∙_}
 use lib.ListN.{length, drop}
-use Rattle.intake.specs.Lines.{beforeEnd}
+use Rattle.intake.specs.Inner.{beforeEnd}
 use Rattle.intake.proofs.Cutting.{before-next, before-ends, before-done}
 use Rattle.intake.proofs.cut.line_end.Statement.{statement}
 use Rattle.intake.proofs.cut.line_end.Tie as tie

@@ -1,17 +1,9 @@
 -- `Month::close` meets its contract: 22, and then the call on the head. Assumes nothing.
-use mathlib.Core.Path.{_≡_, sym, ap, _∙_}
-use mathlib.Core.Bool.{true}
-use borrow.Author.Tests.{not-true, not-false}
+use mathlib.Core.Path.{_∙_}
 use Rattle.history.specs.Rules.{Call}
-use Rattle.history.specs.Board.{wellFormed}
-use Rattle.history.proofs.Board.{Good, good-runs}
-use Rattle.head.specs.Head.{headedOf}
-use Rattle.head.specs.declared.Head.{Head}
-use Rattle.head.specs.declared.Headed.{Headed}
-use Rattle.head.proofs.Sound.{month-sound}
 use Rattle.head.proofs.Heads.{heads-close}
-use Rattle.month.specs.Month.{rulesOf, boardOf, monthHead, bookedOf}
-use Rattle.month.proofs.Core.{well-days, month-good, answer-22, answer-in}
+use Rattle.month.specs.Inner.{monthHead}
+use Rattle.month.proofs.Core.{Formed, formed, answer-22, answer-head}
 use borrow.Author.Needs.{needs}
 use Rattle.month.proofs.Month.close.Statement.{statement}
 use Rattle.month.proofs.Month.close.Tie as tie
@@ -23,13 +15,10 @@ unreachable-requires : tie.Need-unreachable-requires
 unreachable-requires c κs = search needs
 
 returns : tie.Need-returns
-returns c = c .unreachable .ensures ∙ answer-22 _ _ (sym (c .before .before .well-formed .ensures) ∙ not-true _ (c .before .if1 .taken))
+returns c = c .unreachable .ensures ∙ answer-22 _ _ (c .before .before .well-formed .ensures) (c .before .if1 .taken)
 
-well : (c : tie.Else1) → let m = c .before .before .args .self in wellFormed (rulesOf m) (boardOf m) ≡ true
-well c = sym (c .before .well-formed .ensures) ∙ not-false _ (c .if1 .left)
-
-good : (c : tie.Else1) → let m = c .before .before .args .self in Good (rulesOf m) (boardOf m)
-good c = month-good _ (well c) (search needs) (search needs)
+formed-here : (c : tie.Else1) → Formed (c .before .before .args .self)
+formed-here c = formed _ (c .before .well-formed .ensures) (c .if1 .left) (search needs) (search needs)
 
 head-requires : tie.Need-head-requires
 head-requires c κs = search needs
@@ -37,8 +26,8 @@ head-requires c κs = search needs
 close-requires : tie.Need-close-requires
 close-requires c κs = search needs
 
-put-together-requires : tie.Need-put-together-requires
-put-together-requires c κs = search needs
+booked-of-requires : tie.Need-booked-of-requires
+booked-of-requires c κs = search needs
 
 returns-2 : tie.Need-returns-2
 returns-2 c =
@@ -47,12 +36,8 @@ returns-2 c =
     let e = h .before .before .before in
     let a = e .before .before .args in
     let m = a .self in
-    let call = Call.close in
-    let runs = good-runs (rulesOf m) (month-sound (m .days) (well-days m (well e))) (boardOf m) (good e) in
-    let heads = heads-close (monthHead m) (m .marks) (m .amounts) runs in
-    c .put-together .ensures
-    ∙ ap (λ (x : Headed). bookedOf (x .refusal) (x .head) (m .marks) (m .amounts)) (n .close .ensures ∙ ap (λ (x : Head). headedOf x call) (h .head .ensures))
-    ∙ answer-in m call _ _ _ _ (well e) (good e) (heads .number) (heads .board) (heads .days)
+    c .booked-of .ensures
+    ∙ answer-head m Call.close (formed-here e) (heads-close (monthHead m) (m .marks) (m .amounts)) _ _ (n .close .ensures) (h .head .ensures)
 
 pub close-spec : {M : Type 1} → statement M
 close-spec =
@@ -63,5 +48,5 @@ close-spec =
     returns
     head-requires
     close-requires
-    put-together-requires
+    booked-of-requires
     returns-2)

@@ -1,13 +1,11 @@
 -- `Month::post` meets its contract: 22, and then the call in place. Assumes nothing.
-use mathlib.Core.Path.{_≡_, sym, _∙_}
-use mathlib.Core.Bool.{true}
-use borrow.Author.Tests.{not-true, not-false}
+use mathlib.Core.Path.{_∙_}
 use Rattle.history.specs.Rules.{Call, Deed}
-use Rattle.history.specs.Board.{wellFormed}
-use Rattle.history.proofs.Board.{Good, post-at}
+use Rattle.history.proofs.Board.{post-at}
 use Rattle.head.specs.Rules.{amountItem}
+use Rattle.head.proofs.HourPlaces.{place-for}
 use Rattle.month.specs.Month.{rulesOf, boardOf}
-use Rattle.month.proofs.Core.{month-good, answer-22, answer-at}
+use Rattle.month.proofs.Core.{Formed, formed, answer-22, answer-at}
 use borrow.Author.Needs.{needs}
 use Rattle.month.proofs.Month.post.Statement.{statement}
 use Rattle.month.proofs.Month.post.Tie as tie
@@ -19,13 +17,10 @@ unreachable-requires : tie.Need-unreachable-requires
 unreachable-requires c κs = search needs
 
 returns : tie.Need-returns
-returns c = c .unreachable .ensures ∙ answer-22 _ _ (sym (c .before .before .well-formed .ensures) ∙ not-true _ (c .before .if1 .taken))
+returns c = c .unreachable .ensures ∙ answer-22 _ _ (c .before .before .well-formed .ensures) (c .before .if1 .taken)
 
-well : (c : tie.Else1) → let m = c .before .before .args .self in wellFormed (rulesOf m) (boardOf m) ≡ true
-well c = sym (c .before .well-formed .ensures) ∙ not-false _ (c .if1 .left)
-
-good : (c : tie.Else1) → let m = c .before .before .args .self in Good (rulesOf m) (boardOf m)
-good c = month-good _ (well c) (search needs) (search needs)
+formed-here : (c : tie.Else1) → Formed (c .before .before .args .self)
+formed-here c = formed _ (c .before .well-formed .ensures) (c .if1 .left) (search needs) (search needs)
 
 head-requires : tie.Need-head-requires
 head-requires c κs = search needs
@@ -42,8 +37,8 @@ slice-aggregate-post-in-2 c = search needs
 post-in-requires : tie.Need-post-in-requires
 post-in-requires c κs = search needs
 
-put-together-requires : tie.Need-put-together-requires
-put-together-requires c κs = search needs
+booked-of-requires : tie.Need-booked-of-requires
+booked-of-requires c κs = search needs
 
 returns-2 : tie.Need-returns-2
 returns-2 c =
@@ -52,9 +47,9 @@ returns-2 c =
     let h = o .before .before .before in
     let e = h .before in
     let a = e .before .before .args in
-    c .put-together .ensures
+    c .booked-of .ensures
     ∙ answer-at (a .self) (Call.post (a .day) (a .hour) (amountItem (a .amount .0))) (Deed.posts (amountItem (a .amount .0))) (a .day) (a .hour)
-    (post-at (rulesOf (a .self)) (boardOf (a .self)) (a .day) (a .hour) (amountItem (a .amount .0))) _ _ _ _ _ (well e) (good e)
+    (post-at (rulesOf (a .self)) (boardOf (a .self)) (a .day) (a .hour) _ (place-for (a .self .days) (a .day) (a .hour)) (amountItem (a .amount .0))) _ _ _ _ _ (formed-here e)
     (h .head .ensures) (o .place-of .ensures) (p .post-in .ensures .0) (p .post-in .ensures .1)
 
 pub post-spec : {M : Type 1} → statement M
@@ -69,5 +64,5 @@ post-spec =
     slice-aggregate-post-in
     slice-aggregate-post-in-2
     post-in-requires
-    put-together-requires
+    booked-of-requires
     returns-2)

@@ -15,8 +15,8 @@ returns : tie.Need-returns
 unfolding standingTold
 returns c = let e : wellFormed (rulesOf (c .before .before .args .t1)) (boardOf (c .before .before .args .t1)) ≡ false = sym (c .before .well-formed .ensures) ∙ not-true _ (c .if1 .taken) in rw e
 
-standing-in-requires : tie.Need-standing-in-requires
-standing-in-requires c κs = search needs
+standing-on-requires : tie.Need-standing-on-requires
+standing-on-requires c κs = search needs
 
 returns-2 : tie.Need-returns-2
 unfolding standingTold standingOn
@@ -24,7 +24,7 @@ returns-2 c =
     let l = c .before .before .before in
     let m = l .before .before .args .t1 in
     let e : wellFormed (rulesOf m) (boardOf m) ≡ true = sym (l .before .well-formed .ensures) ∙ not-false _ (l .if1 .left) in
-    rw (e, c .standing-in .ensures)
+    rw (e, c .standing-on .ensures)
 
 pub standing-spec : {M : Type 1} → statement M
-standing-spec = tie.close (tie.spec well-formed-requires returns standing-in-requires returns-2)
+standing-spec = tie.close (tie.spec well-formed-requires returns standing-on-requires returns-2)

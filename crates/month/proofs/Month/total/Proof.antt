@@ -5,9 +5,9 @@ use lib.ListN.{length}
 use borrow.Author.Tests.{eq-eqb}
 use Rattle.whole.proofs.Choice.{both}
 use Rattle.units.specs.Limits.{monthPlaces}
-use Rattle.history.specs.Board.{runsFit, totalIn}
+use Rattle.history.specs.Inner.{runsFit, totalIn}
 use Rattle.head.specs.Rules.{monthRules}
-use Rattle.head.specs.Head.{boardIn}
+use Rattle.head.specs.Inner.{boardIn}
 use Rattle.head.specs.declared.Head.{Head}
 use Rattle.board.specs.Board.{toldOf}
 use Rattle.month.specs.Month.{rulesOf, boardOf}

@@ -7,11 +7,11 @@ use lib.ListN.{length}
 use borrow.Author.Needs.{needs}
 use borrow.Author.Tests.{eq-eqb}
 use Rattle.whole.proofs.Choice.{both}
-use Rattle.history.specs.Board.{runsFit, ledgerRefusal}
+use Rattle.history.specs.Inner.{runsFit, ledgerRefusal}
 use Rattle.history.proofs.Board.{ledger-test}
 use Rattle.units.specs.Limits.{monthPlaces}
 use Rattle.head.specs.Rules.{monthRules}
-use Rattle.head.specs.Head.{boardIn}
+use Rattle.head.specs.Inner.{boardIn}
 use Rattle.head.specs.declared.Head.{Head}
 use Rattle.month.specs.Month.{rulesOf, boardOf}
 use Rattle.month.proofs.Month.well_formed.Statement.{statement}

@@ -1,0 +1,13 @@
+-- `board::told_of` meets its contract: by its one test. Assumes nothing.
+use borrow.Author.Tests.{eq-eqb, ne-eqb}
+use Rattle.board.proofs.told_of.Statement.{statement}
+use Rattle.board.proofs.told_of.Tie as tie
+
+returns : tie.Need-returns
+returns c = simp (eq-eqb _ _ (c .if1 .taken))
+
+returns-2 : tie.Need-returns-2
+returns-2 c = simp (ne-eqb _ _ (c .if1 .left))
+
+pub told-of-spec : {M : Type 1} → statement M
+told-of-spec = tie.close (tie.spec returns returns-2)

@@ -1,0 +1,3 @@
+-- The line of a fault.
+pub mod Text
+pub mod Inner

@@ -1,0 +1,45 @@
+-- The questions that print a frame: the entry that it holds (docs/DESK.md, "Questions").
+use Prim.Native.Nat.{ℕ}
+use mathlib.Core.Bool.{_&&_}
+use mathlib.Core.List.{List, [], _∷_}
+use lib.IntN.{ℤ, pos}
+use Rattle.whole.specs.Choice.{inOrder, orElse, kept}
+use Rattle.units.specs.Refusals.{notInMonth, badKind}
+use Rattle.units.specs.Units.{dollars}
+use Rattle.frame.specs.Kinds.{postKind}
+use Rattle.frame.specs.declared.Entry.{Entry}
+use Rattle.numbers.specs.Numbers.{number, isByte, byteOf}
+use Rattle.words.specs.declared.Hour.{Hour}
+use Rattle.words.specs.declared.Hour.the-variants.{Dreg, Edreg}
+use Rattle.words.specs.declared.Framing.{Framing}
+use Rattle.words.specs.declared.Framing.the-variants.{DregFrame, EdregFrame, Frame}
+use Rattle.hours.specs.Hours.{hourAsked, settlement}
+use Rattle.frames.specs.declared.Framed.{Framed}
+
+-- 13 for a kind that is no byte, then 6 for a day or an hour (desk rule)
+abbrev pub entryRefusal : ℤ → ℤ → ℤ → ℕ
+entryRefusal kind day hour = inOrder ((isByte kind, badKind) ∷ (isByte day && isByte hour, notInMonth) ∷ [])
+
+-- beside a refusal
+abbrev pub noEntry : Entry
+noEntry = record { kind = 0; day = 0; hour = 0; amount = dollars (pos 0) }
+
+-- an entry, after the number of a refusal that comes before its own
+unfoldable pub framedBy : ℕ → ℤ → ℤ → ℤ → ℤ → Framed
+framedBy before kind day hour amount =
+    let k = orElse before (entryRefusal kind day hour) in
+    record { refusal = k; entry = kept k (record { kind = byteOf kind; day = byteOf day; hour = byteOf hour; amount = dollars amount }) noEntry }
+
+-- KIND DAY HOUR AMOUNT
+unfoldable pub frameAsked : List ℤ → Framed
+frameAsked n = framedBy 0 (number n 0) (number n 1) (number n 2) (number n 3)
+
+-- DAY HOUR, and an hour by its own terms, bands and readings: the post of its amount
+unfoldable pub hourPost : Hour → List ℤ → List ℤ → List ℤ → List ℤ → Framed
+hourPost hour n terms bands readings =
+    let a = settlement (hourAsked hour terms bands readings) in framedBy (a .refusal) (pos postKind) (number n 0) (number n 1) (a .amount .0)
+
+abbrev pub frameAnswer : Framing → List ℤ → List ℤ → List ℤ → List ℤ → Framed
+frameAnswer DregFrame n terms bands readings = hourPost Dreg n terms bands readings
+frameAnswer EdregFrame n terms bands readings = hourPost Edreg n terms bands readings
+frameAnswer Frame n terms bands readings = frameAsked n

@@ -1,0 +1,2 @@
+-- The questions that print a frame.
+pub mod Frames

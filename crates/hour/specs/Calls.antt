@@ -1,0 +1,31 @@
+-- What the two calls are handed and what they leave, by name: their contracts' arguments, once, as the toolchain reads them off the source (a lent run is a
+-- `RefT`, whose list is `now` of it).
+use Prim.Native.Nat.{ℕ}
+use mathlib.Core.List.{List}
+use lib.IntN.{ℤ}
+use contract.Lifetimes.{Lfts}
+use denote.Ref.{RefT, now}
+use Rattle.hour.specs.Hour.{WholeHour, dRegHour, eDRegHour}
+use Rattle.hour.specs.declared.Terms.{Terms}
+use Rattle.hour.specs.declared.Shift.{Shift}
+
+-- `hour`: the hour, and the run of scores, of what is handed in and of what is left
+abbrev pub HourArguments : Type 0
+HourArguments = RefT (List ℤ) × (RefT (List ℤ) × (Terms × (Shift × (RefT (List ℤ) × (RefT (List ℤ) × (RefT (List ℕ) × Unit {0}))))))
+
+abbrev pub hourHanded : Lfts 5 → HourArguments → WholeHour
+hourHanded κs (powers, (frequencies, (terms, (shift, (thresholds, (factors, (scores, end))))))) =
+    eDRegHour (now powers) (now frequencies) terms shift (now thresholds) (now factors)
+
+abbrev pub hourRun : Lfts 5 → HourArguments → List ℕ
+hourRun κs (powers, (frequencies, (terms, (shift, (thresholds, (factors, (scores, end))))))) = now scores
+
+-- `dreg_hour`
+abbrev pub DRegArguments : Type 0
+DRegArguments = RefT (List ℤ) × (RefT (List ℤ) × (Terms × (RefT (List ℤ) × (RefT (List ℤ) × (RefT (List ℕ) × Unit {0})))))
+
+abbrev pub dRegHanded : Lfts 5 → DRegArguments → WholeHour
+dRegHanded κs (powers, (frequencies, (terms, (thresholds, (factors, (scores, end)))))) = dRegHour (now powers) (now frequencies) terms (now thresholds) (now factors)
+
+abbrev pub dRegRun : Lfts 5 → DRegArguments → List ℕ
+dRegRun κs (powers, (frequencies, (terms, (thresholds, (factors, (scores, end)))))) = now scores

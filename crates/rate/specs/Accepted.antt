@@ -1,0 +1,12 @@
+-- What proofs/Accepted.antt is stated in: what fits, each test of the refusal as a fact.
+use Prim.Native.Nat.{ℕ}
+use mathlib.Core.Path.{_≡_}
+use mathlib.Core.Bool.{true}
+use mathlib.Core.List.{List}
+use lib.ListN.{length}
+use Rattle.units.specs.Limits.{secondsOfHour}
+use Rattle.rate.specs.Rolling.{areScores}
+
+pub record ScoresFit (scores : List ℕ) : Type 0 where
+  pub long : length scores ≡ secondsOfHour
+  pub small : areScores scores ≡ true

@@ -1,0 +1,25 @@
+-- What only mirrors the code: how many fields an answer has, and at most three of them in an array of twelve.
+use Prim.Native.Nat.{ℕ}
+use mathlib.Core.List.{_∷_}
+use lib.IntN.{ℤ, pos}
+use lib.ListN.{replicate}
+use Rattle.words.specs.declared.Few.{Few}
+use Rattle.words.specs.declared.Rule.{Rule}
+use Rattle.words.specs.declared.Rule.the-variants.{Kilowatts, Curve, Score, Rate, Bands, Factor, Fee, Quality, Energy, Loss}
+
+-- how many fields its answer has
+abbrev pub fieldCount : Rule → ℕ
+fieldCount Kilowatts = 1
+fieldCount Curve = 2
+fieldCount Score = 1
+fieldCount Rate = 1
+fieldCount Bands = 0
+fieldCount Factor = 1
+fieldCount Fee = 1
+fieldCount Quality = 1
+fieldCount Energy = 1
+fieldCount Loss = 3
+
+-- at most three of them as the code holds them
+abbrev pub few : ℕ → ℕ → ℤ → ℤ → ℤ → Few
+few refusal count a b c = record { refusal = refusal; count = count; values = a ∷ b ∷ c ∷ replicate 9 (pos 0) }

@@ -1,0 +1,3 @@
+-- The questions that print a run.
+pub mod Series
+pub mod Inner
