@@ -15,7 +15,8 @@ const NOT_REACHABLE: u8 = 22;
 struct Month {
     days: u8,
     closed: bool,
-    fee: i64,
+    basic: i64,
+    excess: i64,
     filled: [bool; PLACES],
     amounts: [i64; PLACES],
 }
@@ -26,7 +27,7 @@ fn is_amount(amount: i64) -> bool {
 
 impl Month {
     fn new(days: u8, closed: bool) -> Month {
-        Month { days, closed, fee: 0, filled: [false; PLACES], amounts: [0; PLACES] }
+        Month { days, closed, basic: 0, excess: 0, filled: [false; PLACES], amounts: [0; PLACES] }
     }
 
     // The hour's place, or the refusal of a closed month or of an hour outside it.
@@ -91,7 +92,8 @@ impl Month {
     fn well_formed(&self) -> bool {
         let places = self.days as usize * 24;
         (28..=31).contains(&self.days)
-            && (0..=100_000_000_000).contains(&self.fee)
+            && (0..=100_000_000_000).contains(&self.basic)
+            && (0..=100_000_000_000).contains(&self.excess)
             && self.filled.iter().zip(&self.amounts).enumerate().all(|(p, (&filled, &amount))| {
                 if filled { p < places && is_amount(amount) } else { amount == 0 }
             })

@@ -36,7 +36,7 @@ fn in_form(entry: &Entry) -> bool {
         0 => entry.hour == 0 && entry.amount == 0,
         1 | 2 => true,
         3 => entry.amount == 0,
-        4 => entry.day == 0 && entry.hour == 0,
+        4 | 6 => entry.day == 0 && entry.hour == 0,
         5 => entry.day == 0 && entry.hour == 0 && entry.amount == 0,
         _ => false,
     }
@@ -103,7 +103,7 @@ fn entry(x: u64) -> Entry {
         0..=7 => (POST, amount),
         8..=11 => (REPLACE, amount),
         12..=14 => (WITHDRAW, 0),
-        _ => (6, 0),
+        _ => (7, 0),
     };
     Entry { kind, day, hour, amount }
 }

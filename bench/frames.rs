@@ -1,5 +1,5 @@
-//! Writes an input for `ledger`: an open, then posts, replacements and withdrawals by chance, some of them damaged, as many lines as the
-//! argument says.
+//! Writes an input for `ledger`: an open, then posts, replacements, withdrawals and both loss fees by chance, some of them damaged, as many
+//! lines as the argument says.
 use std::io::{self, BufWriter, Write};
 
 fn main() -> io::Result<()> {
@@ -15,11 +15,15 @@ fn main() -> io::Result<()> {
         if i == 0 {
             bytes[1] = 31;
         } else {
-            bytes[0] = 1 + chance(3) as u8;
-            bytes[1] = 1 + chance(31) as u8;
-            bytes[2] = chance(24) as u8;
+            bytes[0] = [1, 1, 2, 2, 3, 3, 4, 6][chance(8) as usize];
+            let at_an_hour = bytes[0] < 4;
+            if at_an_hour {
+                bytes[1] = 1 + chance(31) as u8;
+                bytes[2] = chance(24) as u8;
+            }
             if bytes[0] != 3 {
-                bytes[3..11].copy_from_slice(&(chance(20_001) as i64 - 10_000).to_be_bytes());
+                let dollars = chance(20_001) as i64 - if at_an_hour { 10_000 } else { 100 };
+                bytes[3..11].copy_from_slice(&dollars.to_be_bytes());
             }
         }
         bytes[11] = bytes[..11].iter().fold(0u8, |sum, b| sum.wrapping_add(*b));

@@ -44,7 +44,7 @@ fn read(line: &[u8]) -> Result<Entry, u8> {
         0 => entry.hour == 0 && entry.amount == 0,
         1 | 2 => true,
         3 => entry.amount == 0,
-        4 => entry.day == 0 && entry.hour == 0,
+        4 | 6 => entry.day == 0 && entry.hour == 0,
         5 => entry.day == 0 && entry.hour == 0 && entry.amount == 0,
         _ => false,
     };
@@ -54,7 +54,8 @@ fn read(line: &[u8]) -> Result<Entry, u8> {
 struct Month {
     days: u8,
     closed: bool,
-    fee: i64,
+    basic: i64,
+    excess: i64,
     hours: [Option<i64>; 744],
 }
 
@@ -64,11 +65,12 @@ impl Month {
             return 9;
         }
         match entry.kind {
-            4 => {
+            4 | 6 => {
                 if !(0..=FEE).contains(&entry.amount) {
                     return 3;
                 }
-                self.fee = entry.amount;
+                let fee = if entry.kind == 4 { &mut self.basic } else { &mut self.excess };
+                *fee = entry.amount;
                 return 0;
             }
             5 => {
@@ -111,7 +113,8 @@ fn answer(month: &mut Option<Month>, line: &[u8]) -> u8 {
             *month = Some(Month {
                 days: entry.day,
                 closed: false,
-                fee: 0,
+                basic: 0,
+                excess: 0,
                 hours: [None; 744],
             });
             0
@@ -133,7 +136,7 @@ fn main() -> io::Result<()> {
         writeln!(out, "{} {}", number, answer(&mut month, text))?;
         line.clear();
     }
-    let total = month.map_or(0, |month| month.hours.iter().flatten().sum::<i64>() - month.fee);
+    let total = month.map_or(0, |month| month.hours.iter().flatten().sum::<i64>() - month.basic - month.excess);
     writeln!(out, "total {}", total)?;
     out.flush()
 }

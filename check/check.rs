@@ -49,7 +49,7 @@ const fn runs(name: &'static str, runs: usize, asks: Asks) -> Part {
     Part { name, asks, runs, grows: true }
 }
 
-const PARTS: [Part; 28] = [
+const PARTS: [Part; 29] = [
     once("figures", Asks::Desk(figures::questions)),
     once("kilowatts", Asks::Desk(questions::kilowatts)),
     once("curve", Asks::Desk(questions::curve)),
@@ -71,6 +71,7 @@ const PARTS: [Part; 28] = [
     runs("counts", 1, Asks::Desk(questions::counts)),
     runs("desk | ledger", 2, Asks::Both(questions::month)),
     once("ledger figures", Asks::Ledger(figures::frames)),
+    once("ledger fees", Asks::Ledger(figures::fees)),
     runs("ledger reader", 1, Asks::Ledger(frames::reader)),
     once("ledger limits", Asks::Ledger(frames::limits)),
     runs("ledger months", 4, Asks::Ledger(frames::month_limits)),

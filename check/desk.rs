@@ -1,4 +1,4 @@
-//! The text form of `desk`: how it reads questions, and the line that it prints for each. The rules are document 01's (rules.rs, month.rs).
+//! The text form of `desk`: how it reads questions, and the lines that it prints for each. The rules are document 01's (rules.rs, month.rs).
 
 use crate::faults::{wrong, Fault};
 use crate::month::{write, Frame};
@@ -95,7 +95,7 @@ fn needs(word: &[u8]) -> Option<Needs> {
         b"kilowatts" | b"curve" => Needs::Just(1),
         b"ramp" | b"fee" => Needs::Just(2),
         b"quality" => Needs::Just(3),
-        b"score" | b"loss" | b"frame" => Needs::Just(4),
+        b"score" | b"loss" | b"frame" | b"loss_frames" => Needs::Just(4),
         b"rate" => Needs::Just(SECONDS),
         b"energy" => Needs::Just(6 + SECONDS),
         b"bands" => Needs::Pairs(0),
@@ -231,6 +231,20 @@ fn hour_frame(numbers: &[i64], head: usize) -> Answer<String> {
     frame(1, numbers[0], numbers[1], settled.amount)
 }
 
+/// The frames that set the basic and the excess fee, or the refusal alone.
+fn loss_frames(charged: i64, discharged: i64, volts: i64, cost: i64) -> Answer<[String; 2]> {
+    let (basic, excess) = rules::loss(charged, discharged, volts, cost)?;
+    Ok([frame(4, 0, 0, basic)?, frame(6, 0, 0, excess)?])
+}
+
+/// The lines of a question's answer: one, but for `loss_frames`.
+fn answers(word: &[u8], n: &[i64]) -> Vec<String> {
+    match word {
+        b"loss_frames" => loss_frames(n[0], n[1], n[2], n[3]).map_or_else(|refusal| vec![refusal.to_string()], Vec::from),
+        _ => vec![answer(word, n)],
+    }
+}
+
 fn answer(word: &[u8], n: &[i64]) -> String {
     match word {
         b"kilowatts" => fields(rules::kilowatts(n[0]).map(|power| [power])),
@@ -255,11 +269,11 @@ fn answer(word: &[u8], n: &[i64]) -> String {
 }
 
 impl Question<'_> {
-    /// The line that desk prints for it.
-    pub fn line(&self) -> String {
+    /// The lines that desk prints for it.
+    pub fn lines(&self) -> Vec<String> {
         match numbers(self) {
-            Ok(numbers) => answer(self.tokens[0].bytes, &numbers),
-            Err(misread) => format!("line {}: {} {}", misread.line, misread.fault, fault_words(misread.fault)),
+            Ok(numbers) => answers(self.tokens[0].bytes, &numbers),
+            Err(misread) => vec![format!("line {}: {} {}", misread.line, misread.fault, fault_words(misread.fault))],
         }
     }
 

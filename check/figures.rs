@@ -1,4 +1,4 @@
-//! The figures that document 01 prints ("Worked figures", "Frames"), typed off the paper: this side's rules have to give them, and the
+//! The figures that document 01 prints ("Worked figures", "Frames"), typed off the paper, and #101's frames of them: this side's rules have to give them, and the
 //! programs too.
 
 use crate::draw::Draw;
@@ -7,7 +7,7 @@ use crate::rules::rolling;
 
 const LIST_S: &str = "95 10 94 8 93 6 92 4 91 2 70 0 0 -10";
 
-/// A question, and the line that answers it.
+/// A question, and the lines that answer it, with a space between two.
 fn lines() -> Vec<(String, &'static str)> {
     let charging: Vec<_> = [-3000, -2900, 100, -3200].iter().map(|mean| format!(" {mean}").repeat(900)).collect();
     vec![
@@ -31,6 +31,9 @@ fn lines() -> Vec<(String, &'static str)> {
         ("frame 0 31 0 0".into(), "001F0000000000000000001F"),
         ("frame 1 3 10 7800".into(), "01030A0000000000001E78A4"),
         ("frame 4 0 0 8658".into(), "04000000000000000021D2F7"),
+        ("frame 6 0 0 8658".into(), "06000000000000000021D2F9"),
+        ("loss_frames 120000 84000 22800 40000".into(), "0400000000000000024EA0F4 06000000000000000189C050"),
+        ("loss_frames 120000 84000 11399 1000001".into(), "3"),
     ]
 }
 
@@ -49,6 +52,10 @@ const ROLLING: [i64; 11] = [100, 100, 100, 100, 90, 90, 95, 100, 100, 100, 100];
 const FRAMES: &str = "001F0000000000000000001F\n01030A0000000000001E78A4\n01030A0000000000001888AE\n04000000000000000021D2F7\n";
 const VERDICTS: [&str; 5] = ["1 0", "2 0", "3 7", "4 0", "total -858"];
 
+/// Document 01's loss example in a month of one hour of 300,000 dollars: a basic fee set twice, an excess fee once.
+const FEES: &str = "001F0000000000000000001F\n01010000000000000493E079\n040000000000000000000105\n0400000000000000024EA0F4\n06000000000000000189C050\n";
+const FEE_VERDICTS: [&str; 6] = ["1 0", "2 0", "3 0", "4 0", "5 0", "total 48000"];
+
 /// What the paper's figures ask of desk.
 pub fn questions(_: &mut Draw) -> String {
     let asked = lines().into_iter().map(|(question, _)| question);
@@ -60,8 +67,13 @@ pub fn frames(_: &mut Draw) -> Vec<u8> {
     FRAMES.into()
 }
 
+/// #101's.
+pub fn fees(_: &mut Draw) -> Vec<u8> {
+    FEES.into()
+}
+
 fn answer(question: &str) -> String {
-    Program::Desk.expected(question.as_bytes()).concat()
+    Program::Desk.expected(question.as_bytes()).join(" ")
 }
 
 /// The first figure of the paper that this side's rules do not give.
@@ -74,6 +86,7 @@ pub fn missed() -> Option<String> {
         ramp.map(|(question, _, _)| question.to_string()),
         (rates != ROLLING).then(|| "the rolling rates".to_string()),
         (Program::Ledger.expected(FRAMES.as_bytes()) != VERDICTS).then(|| "the ledger's sample".to_string()),
+        (Program::Ledger.expected(FEES.as_bytes()) != FEE_VERDICTS).then(|| "the two loss fees".to_string()),
     ];
     missed.into_iter().flatten().next()
 }

@@ -35,16 +35,17 @@ fn region(draw: &mut Draw) -> Region {
 }
 
 fn call(draw: &mut Draw, region: &Region) -> Frame {
-    let kind = draw.of(&[1, 1, 1, 1, 2, 2, 3, 3, 3, 4]);
+    let kind = draw.of(&[1, 1, 1, 1, 2, 2, 3, 3, 3, 4, 6]);
     let (mut day, mut hour) = (draw.between(1, region.days) as u8, draw.between(0, region.hours) as u8);
-    let mut amount = draw.any(if kind == 4 { LOSS_FEE } else { AMOUNT });
+    let fee = kind == 4 || kind == 6;
+    let mut amount = draw.any(if fee { LOSS_FEE } else { AMOUNT });
     if draw.one_in(20) {
         (day, hour) = (draw.of(&[0, 1, 28, 29, 30, 31, 32, 255]), draw.of(&[0, 23, 24, 255]));
     }
     if kind == 3 {
         amount = 0;
     }
-    if kind == 4 {
+    if fee {
         (day, hour) = (0, 0);
     }
     Frame { kind, day, hour, amount }

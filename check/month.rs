@@ -1,4 +1,4 @@
-//! Document 01's frames, ledger and program, from the paper alone. The ledger keeps no places: it is the list of accepted calls, and every
+//! Document 01's frames, ledger and program, with document 02's #101, from the papers alone. The ledger keeps no places: it is the list of accepted calls, and every
 //! refusal and the total are worked out from that list.
 
 use crate::faults::{wrong, Fault};
@@ -27,7 +27,7 @@ fn kind_fits(frame: &Frame) -> bool {
         0 => hour && amount,
         1 | 2 => true,
         3 => amount,
-        4 => day && hour,
+        4 | 6 => day && hour || wrong(Fault::HourOfSix) && frame.kind == 6 && day,
         5 => day && hour && amount,
         _ => false,
     }
@@ -77,13 +77,20 @@ struct Place {
     hour: u8,
 }
 
+/// #101: each loss fee "has its own last accepted value".
+#[derive(Clone, Copy, PartialEq)]
+enum Fee {
+    Basic,
+    Excess,
+}
+
 /// A call that may change a month.
 #[derive(Clone, Copy)]
 enum Call {
     Post(Place, i64),
     Replace(Place, i64),
     Withdraw(Place),
-    LossFee(i64),
+    LossFee(Fee, i64),
     Close,
 }
 
@@ -104,9 +111,13 @@ impl Month {
         self.accepted.iter().rev().find_map(left).flatten()
     }
 
-    fn last_loss_fee(&self) -> i64 {
-        let fee = |call: &Call| if let Call::LossFee(fee) = *call { Some(fee) } else { None };
-        self.accepted.iter().rev().find_map(fee).unwrap_or(0)
+    /// A fee's last accepted value, "zero if never set".
+    fn last(&self, fee: Fee) -> i64 {
+        let set = |call: &Call| match *call {
+            Call::LossFee(which, dollars) if which == fee || wrong(Fault::OneLossFee) => Some(dollars),
+            _ => None,
+        };
+        self.accepted.iter().rev().find_map(set).unwrap_or(0)
     }
 
     /// Nothing is accepted after a close.
@@ -124,11 +135,11 @@ impl Month {
             Call::Post(place, amount) => (Some(place), AMOUNT.hold(amount), true),
             Call::Replace(place, amount) => (Some(place), AMOUNT.hold(amount), false),
             Call::Withdraw(place) => (Some(place), true, false),
-            Call::LossFee(fee) => (None, LOSS_FEE.hold(fee), false),
+            Call::LossFee(_, dollars) => (None, LOSS_FEE.hold(dollars), false),
             Call::Close => (None, true, false),
         };
         let filled = place.is_some_and(|place| self.standing(place).is_some());
-        let closed = self.closed() && !(wrong(Fault::FeeAfterClose) && matches!(call, Call::LossFee(_)));
+        let closed = self.closed() && !(wrong(Fault::FeeAfterClose) && matches!(call, Call::LossFee(Fee::Excess, _)));
         let (seven, eight) = if wrong(Fault::SevenAndEight) { (8, 7) } else { (7, 8) };
         let holding = [
             (9, closed),
@@ -146,11 +157,12 @@ impl Month {
         Ok(())
     }
 
-    /// The month total: what stands at every place, less the last loss fee.
+    /// The month total: what stands at every place, less both loss fees.
     fn total(&self) -> i64 {
         let places = (1..=self.days).flat_map(|day| (0..=LAST_HOUR).map(move |hour| Place { day, hour }));
         let hours: i64 = places.filter_map(|place| self.standing(place)).sum();
-        hours + self.withdrawn() - self.last_loss_fee()
+        let excess = if wrong(Fault::ExcessNotTaken) { 0 } else { self.last(Fee::Excess) };
+        hours + self.withdrawn() - self.last(Fee::Basic) - excess
     }
 
     /// What the fault "withdrawal-forgotten" adds to the total.
@@ -171,7 +183,8 @@ fn call_of(frame: &Frame) -> Call {
         1 => Call::Post(place, frame.amount),
         2 => Call::Replace(place, frame.amount),
         3 => Call::Withdraw(place),
-        4 => Call::LossFee(frame.amount),
+        4 => Call::LossFee(Fee::Basic, frame.amount),
+        6 => Call::LossFee(Fee::Excess, frame.amount),
         _ => Call::Close,
     }
 }

@@ -26,7 +26,7 @@ impl Program {
     /// The lines that it should print.
     pub fn expected(self, input: &[u8]) -> Vec<String> {
         match self {
-            Program::Desk => desk::questions(input).iter().map(desk::Question::line).collect(),
+            Program::Desk => desk::questions(input).iter().flat_map(desk::Question::lines).collect(),
             Program::Ledger => month::transcript(input),
         }
     }
@@ -42,7 +42,11 @@ impl Program {
     /// What the line at this place answers.
     pub fn asked(self, input: &[u8], at: usize) -> String {
         let found = match self {
-            Program::Desk => desk::questions(input).get(at).map(desk::Question::shown),
+            Program::Desk => {
+                let asked = desk::questions(input);
+                let mut by_line = asked.iter().flat_map(|question| question.lines().into_iter().map(move |_| question));
+                by_line.nth(at).map(desk::Question::shown)
+            }
             Program::Ledger => month::lines(input).nth(at).map(|line| String::from_utf8_lossy(line).into_owned()),
         };
         found.unwrap_or("the input's end".to_string())

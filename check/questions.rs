@@ -286,14 +286,17 @@ fn tied_loss(draw: &mut Draw) -> [i64; 4] {
 pub fn loss(draw: &mut Draw) -> String {
     let mut text = String::new();
     let limits = [ENERGY, ENERGY, VOLTAGE, COST];
-    ask_edges(draw, &mut text, "loss", &limits);
-    ask_any(draw, &mut text, "loss", &limits, 1500);
+    for word in ["loss", "loss_frames"] {
+        ask_edges(draw, &mut text, word, &limits);
+        ask_any(draw, &mut text, word, &limits, 1500);
+    }
     for _ in 0..1500 {
         let mut numbers = tied_loss(draw);
         if draw.one_in(3) {
             numbers[1] = numbers[0] / 5 * 4 + draw.between(-1, 1);
         }
-        ask(draw, &mut text, "loss", &numbers);
+        let word = draw.of(&["loss", "loss_frames"]);
+        ask(draw, &mut text, word, &numbers);
     }
     text
 }
@@ -629,8 +632,10 @@ pub fn month(draw: &mut Draw) -> String {
         let amount = if kind == 2 { draw.any(AMOUNT) } else { 0 };
         ask(draw, &mut text, "frame", &[kind, day, hour, amount]);
     }
-    let fee = draw.between(0, 1_000_000);
-    ask(draw, &mut text, "frame", &[4, 0, 0, fee]);
+    let (kind, fee) = (draw.of(&[4, 6]), draw.between(0, 1_000_000));
+    ask(draw, &mut text, "frame", &[kind, 0, 0, fee]);
+    let loss = tied_loss(draw);
+    ask(draw, &mut text, "loss_frames", &loss);
     ask(draw, &mut text, "frame", &[5, 0, 0, 0]);
     text
 }
@@ -681,13 +686,14 @@ const LARGE: [&str; 12] = [
 ];
 
 /// Words with how many numbers each takes (and what those may be, when right).
-const SMALL: [(&str, &[Limits]); 7] = [
+const SMALL: [(&str, &[Limits]); 8] = [
     ("kilowatts", &[MEGAWATTS]),
     ("curve", &[FREQUENCY]),
     ("fee", &[PRICE, CAPACITY]),
     ("quality", &[FEE, FEE, FACTOR]),
     ("score", &[POWER, TARGET, CAPACITY, FREQUENCY]),
     ("loss", &[ENERGY, ENERGY, VOLTAGE, COST]),
+    ("loss_frames", &[ENERGY, ENERGY, VOLTAGE, COST]),
     ("bands", &[THRESHOLD, FACTOR]),
 ];
 

@@ -86,7 +86,13 @@ asked = [
     ("edreg_frame 12 15 " + moved_hour, frame(1, 12, 15, moved_settled[7])),
     # a capacity of 0 is refused before the day is looked at
     ("edreg_frame 300 0 " + "0 " * 10 + "0 " + "0 " * 7200, "2"),
-    ("frame 6 0 0 0", "13"),
+    ("frame 6 0 0 100800", frame(6, 0, 0, 100800)),
+    ("loss_frames 120000 84000 22800 40000", frame(4, 0, 0, 151200) + "\n" + frame(6, 0, 0, 100800)),
+    ("loss_frames 120000 96000 22800 40000", frame(4, 0, 0, 100800) + "\n" + frame(6, 0, 0, 0)),
+    ("loss_frames 120000 84000 0 40000", "15"),
+    ("loss_frames 120000 84000 22800 1000001", "3"),
+    ("frame 6 0 1 100800", "13"),
+    ("frame 7 0 0 0", "13"),
     ("frame 1 256 0 0", "6"),
 ]
 faults = [

@@ -56,11 +56,11 @@ for mw in [5, -8, 0, 100, -100, 101, -101, LEAST, MOST]:
 
 class Ledger:
     def __init__(self, days, forged=False):
-        self.days, self.hours, self.fee, self.closed, self.forged = days, {}, 0, False, forged
+        self.days, self.hours, self.basic, self.excess, self.closed, self.forged = days, {}, 0, 0, False, forged
 
     def copy(self):
         m = Ledger(self.days, self.forged)
-        m.hours, m.fee, m.closed = dict(self.hours), self.fee, self.closed
+        m.hours, m.basic, m.excess, m.closed = dict(self.hours), self.basic, self.excess, self.closed
         return m
 
     def inside(self, d, h):
@@ -94,8 +94,14 @@ class Ledger:
     def withdraw(self, d, h):
         return self.put(self.refused(d, h, False, True), lambda m: m.hours.__delitem__((d, h)))
 
+    def set_fee(self, which, a):
+        return self.put(self.refused(bad=not 0 <= a <= 10**11), lambda m: setattr(m, which, a))
+
     def loss_fee(self, a):
-        return self.put(self.refused(bad=not 0 <= a <= 10**11), lambda m: setattr(m, "fee", a))
+        return self.set_fee("basic", a)
+
+    def excess_fee(self, a):
+        return self.set_fee("excess", a)
 
     def close(self):
         return self.put(self.refused(), lambda m: setattr(m, "closed", True))
@@ -113,7 +119,10 @@ class Ledger:
         return (0, sum(a for (e, _), a in self.hours.items() if e == d)) if self.inside(d, 0) else (6, 0)
 
     def total(self):
-        return (22, 0) if self.forged else (0, sum(self.hours.values()) - self.fee)
+        return (22, 0) if self.forged else (0, sum(self.hours.values()) - self.basic - self.excess)
+
+    def fees(self):
+        return (22, 0, 22, 0) if self.forged else (0, self.basic, 0, self.excess)
 
     def standing(self):
         return (22, 0) if self.forged else (0, len(self.hours))
@@ -131,6 +140,10 @@ def book(label, answer):
 
 def read_out(m):
     line("read-outs", *m.hour(3, 10), *m.day(3), *m.total(), *m.standing())
+
+
+def read_fees(m):
+    line("fees", *m.fees())
 
 
 line("a month by hand")
@@ -173,6 +186,22 @@ for label, d, h, a in [
     book(label, m.post(d, h, a))
 for label, a in [("fee zero", 0), ("fee below", -1), ("fee most", 10**11), ("fee above", 10**11 + 1), ("fee i64", MOST)]:
     book(label, m.loss_fee(a))
+for label, a in [("excess fee below", -1), ("excess fee most", 10**11), ("excess fee above", 10**11 + 1)]:
+    book(label, m.excess_fee(a))
+
+line("the two loss fees")
+_, m = opened(31)
+m = book("post", m.post(3, 10, 300000))
+m = book("basic fee", m.loss_fee(1))
+m = book("excess fee", m.excess_fee(100800))
+read_fees(m)
+m = book("basic fee again", m.loss_fee(151200))
+assert m.total() == (0, 300000 - 151200 - 100800)
+read_fees(m)
+m = book("close", m.close())
+m = book("basic fee closed", m.loss_fee(2))
+m = book("excess fee closed", m.excess_fee(2))
+read_fees(m)
 
 line("the largest month")
 for label, a in [("most", 10**9), ("least", -(10**9))]:
@@ -180,14 +209,15 @@ for label, a in [("most", 10**9), ("least", -(10**9))]:
     for d in range(1, 32):
         for h in range(24):
             _, m = m.post(d, h, a)
-    book(label + " and the largest fee", m.loss_fee(10**11))
+    book(label + " and the largest fees", m.loss_fee(10**11)[1].excess_fee(10**11))
     read_out(m)
 
 for what in [
     "an amount in an empty place",
     "a filled place past the month's end",
     "27 days",
-    "a fee below 0",
+    "a basic fee below 0",
+    "an excess fee past the limit",
     "an amount past the limit",
     "what a refused open hands back",
 ]:
@@ -197,8 +227,10 @@ for what in [
     book("replace", m.replace(3, 10, 1))
     book("withdraw", m.withdraw(3, 10))
     book("loss fee", m.loss_fee(1))
+    book("excess fee", m.excess_fee(1))
     book("close", m.close())
     read_out(m)
+    read_fees(m)
 
 line("in place, past the month")
 _, m = opened(28)

@@ -1,14 +1,14 @@
 #!/usr/bin/env python3
 """Makes this crate's stdin and stdout, and the sample month with its answers (samples/).
 
-Written from document 01 alone ("The ledger", "Frames", "Numbers that are turned away"): an independent model, on whole numbers and
+Written from document 01 ("The ledger", "Frames", "Numbers that are turned away") and document 02 (#101) alone: an independent model, on whole numbers and
 dictionaries, of what the program `ledger` prints. A case is its heading, a byte 01, the input, a byte 00; no input here has either byte.
 """
 import os
 import random
 
 HERE = os.path.dirname(os.path.abspath(__file__))
-OPEN, POST, REPLACE, WITHDRAW, FEE, CLOSE = range(6)
+OPEN, POST, REPLACE, WITHDRAW, FEE, CLOSE, EXCESS = range(7)
 DIGITS = b"0123456789ABCDEF"
 
 
@@ -28,15 +28,15 @@ def read(line):
         return 12
     kind, day, hour = body[:3]
     amount = int.from_bytes(body[3:11], "big", signed=True)
-    if kind > CLOSE:
+    if kind > EXCESS:
         return 13
-    unused = {OPEN: (hour, amount), WITHDRAW: (amount,), FEE: (day, hour), CLOSE: (day, hour, amount)}.get(kind, ())
+    unused = {OPEN: (hour, amount), WITHDRAW: (amount,), FEE: (day, hour), EXCESS: (day, hour), CLOSE: (day, hour, amount)}.get(kind, ())
     return 13 if any(unused) else (kind, day, hour, amount)
 
 
 class Desk:
     def __init__(self):
-        self.days, self.hours, self.fee, self.closed = None, {}, 0, False
+        self.days, self.hours, self.fees, self.closed = None, {}, {FEE: 0, EXCESS: 0}, False
 
     def take(self, entry):
         kind, day, hour, amount = entry
@@ -52,10 +52,10 @@ class Desk:
         if kind == CLOSE:
             self.closed = True
             return 0
-        if kind == FEE:
+        if kind in self.fees:
             if not 0 <= amount <= 10**11:
                 return 3
-            self.fee = amount
+            self.fees[kind] = amount
             return 0
         if not (1 <= day <= self.days and hour <= 23):
             return 6
@@ -84,7 +84,7 @@ def transcript(data):
     for number, line in enumerate(lines[:1000000], 1):
         entry = read(line)
         said.append(f"{number} {entry if isinstance(entry, int) else desk.take(entry)}\n")
-    return ("".join(said) + f"total {sum(desk.hours.values()) - desk.fee}\n").encode()
+    return ("".join(said) + f"total {sum(desk.hours.values()) - sum(desk.fees.values())}\n").encode()
 
 
 def lines(*parts):
@@ -107,7 +107,7 @@ CASES = [
             b"01",
             b"G" + OPENED[1:],
             damaged(OPENED),
-            frame(6),
+            frame(7),
             frame(OPEN, 30, 1),
             frame(POST, 1, 0, 5),
             frame(OPEN, 27),
@@ -151,6 +151,36 @@ CASES = [
         ),
     ),
     ("a loss fee replaces the former", lines(OPENED, frame(FEE, 0, 0, 900), frame(FEE, 0, 0, 40), frame(FEE, 0, 0, 10**11 + 1))),
+    (
+        "document 01's loss example: the basic fee set twice, the excess fee once",
+        lines(frame(OPEN, 31), frame(POST, 1, 0, 300000), frame(FEE, 0, 0, 1), frame(FEE, 0, 0, 151200), frame(EXCESS, 0, 0, 100800)),
+    ),
+    (
+        "each fee replaces its own former and leaves the other",
+        lines(
+            OPENED,
+            frame(EXCESS, 0, 0, 7),
+            frame(FEE, 0, 0, 900),
+            frame(EXCESS, 0, 0, 40),
+            frame(EXCESS, 0, 0, 10**11 + 1),
+            frame(EXCESS, 0, 0, -1),
+            frame(FEE, 0, 0, 5),
+            frame(EXCESS, 0, 0, 0),
+        ),
+    ),
+    (
+        "an excess fee: with an hour, with a day, before a month is open, the largest beside the largest basic fee, after the close",
+        lines(
+            frame(EXCESS, 0, 0, 1),
+            OPENED,
+            frame(EXCESS, 0, 1, 1),
+            frame(EXCESS, 1, 0, 1),
+            frame(EXCESS, 0, 0, 10**11),
+            frame(FEE, 0, 0, 10**11),
+            frame(CLOSE),
+            frame(EXCESS, 0, 0, 1),
+        ),
+    ),
     (
         "the largest and the least amounts and fees that are taken",
         lines(OPENED, frame(POST, 1, 0, 10**9), frame(POST, 1, 1, -(10**9)), frame(FEE, 0, 0, 10**11), frame(POST, 1, 2, -(10**9))),

@@ -2,7 +2,7 @@
 -- one that meets `finish`'s, from the first state and a month's empty places, has printed the transcript of the whole input. The contracts are
 -- equations, so that this follows from the definitions. Assumes nothing.
 use Prim.Native.Nat.{ℕ, _+_, _*_, _/_, _≤_}
-use mathlib.Core.Path.{_≡_, refl, sym, ap, ap₂, _∙_, subst}
+use mathlib.Core.Path.{_≡_, refl, sym, ap, ap₂, _∙_, subst, subst⁻¹}
 use mathlib.Core.Bool.{Bool, true, false}
 use mathlib.Core.List.{List, [], _∷_, _++_}
 use lib.IntN.{ℤ, pos}
@@ -19,7 +19,9 @@ use Rattle.whole.proofs.Choice.{kept-new}
 use Rattle.whole.proofs.Refused.{number-is}
 use Rattle.units.specs.Limits.{monthPlaces}
 use Rattle.text.specs.Text.{put}
+use Rattle.book.specs.Book.{Book}
 use Rattle.book.specs.Inner.{bookOf}
+use Rattle.book.proofs.Calls.{book-all}
 use Rattle.intake.specs.Answers.{ledgerTranscript}
 use Rattle.board.specs.Calls.{lentMarks, lentAmounts}
 use Rattle.intake.specs.Calls.{lentChunk, lentOut}
@@ -135,12 +137,18 @@ prints-history cs text p = prints-transcript cs text p ∙ transcript-told (inpu
 
 -- ---- every `feed` of the program is accepted, and so is its `finish`
 
+chunk-kept : (state : Progress) (chunk : List ℕ) (marks : List Bool) (amounts : List ℤ) → bookRefusal (bookOf (state .cover) marks amounts) ≡ 0 →
+    let next = chunkBook state chunk marks amounts in
+    bookRefusal (bookOf (chunkState state chunk marks amounts .cover) (next .board .marks) (next .board .amounts)) ≡ 0
+chunk-kept state chunk marks amounts k =
+    subst⁻¹ (λ (b : Book). bookRefusal b ≡ 0) (book-all (chunkBook state chunk marks amounts)) (all-kept (bookOf (state .cover) marks amounts) (linesIn (state .line) chunk) k)
+
 reaches-kept : {state : Progress} {marks : List Bool} {amounts : List ℤ} → Reaches state marks amounts → bookRefusal (bookOf (state .cover) marks amounts) ≡ 0
 unfolding firstProgress
 reaches-kept started = refl
 reaches-kept (fed-on {state = state} {marks = marks} {amounts = amounts} {chunk = chunk} r f) =
     let d = fedly f in
-    rw (d .next-is, d .marks-is, d .amounts-is) (all-kept (bookOf (state .cover) marks amounts) (linesIn (state .line) chunk) (reaches-kept r))
+    rw (d .next-is, d .marks-is, d .amounts-is) (chunk-kept state chunk marks amounts (reaches-kept r))
 
 -- a read of at most 65,536 bytes, against the run of 786,432 that the program lends
 pub feed-accepted : (κs : Lfts 4) (a : Dens κs feed-kinds.ps) (r : Fed) (s : AtExit (endedOf 4 feed-kinds.ps feed-kinds.r) κs) → feed-reads.Post κs a r s
@@ -247,7 +255,7 @@ made-from state marks amounts [] k = finished (finishes state marks amounts k)
 made-from state marks amounts (c ∷ cs) k =
     fed (feeds state c marks amounts k)
     (made-from (chunkState state c marks amounts) (chunkBook state c marks amounts .board .marks) (chunkBook state c marks amounts .board .amounts) cs
-    (all-kept (bookOf (state .cover) marks amounts) (linesIn (state .line) c) k))
+    (chunk-kept state c marks amounts k))
 
 -- any input, however it is cut, is printed so
 pub prints-made : (cs : List (List ℕ)) → Prints firstProgress (replicate monthPlaces false) (replicate monthPlaces (pos 0)) cs (ledgerTranscript (inputOf cs))

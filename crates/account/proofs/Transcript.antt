@@ -13,11 +13,13 @@ use Rattle.whole.specs.Choice.{pick}
 use Rattle.whole.proofs.Choice.{by-test}
 use Rattle.units.specs.Limits.{monthPlaces}
 use Rattle.history.specs.Board.{fresh}
+use Rattle.head.proofs.Heads.{fresh-in}
 use Rattle.intake.specs.Lines.{lineEnd, linesAfter, linesOf}
 use Rattle.intake.specs.Text.{totalText}
 use Rattle.book.specs.Book.{Book}
 use Rattle.intake.specs.Answers.{firstBook, mostLines, answerTo, bookAfter, answersTo, bookAfterAll, bookTotal, ledgerTranscript}
 use Rattle.book.specs.Inner.{bookOf}
+use Rattle.book.proofs.Calls.{book-all}
 use Rattle.intake.specs.Inner.{heldIn, emptyLine, pushed, linesIn, leftIn, lastIn, firstProgress, chunkText, chunkBook, chunkState, lastText}
 use Rattle.intake.specs.declared.Line.{Line}
 use Rattle.intake.specs.declared.Progress.{Progress}
@@ -148,7 +150,8 @@ output-is state marks amounts (c ∷ cs) =
     let book = bookOf (state .cover) marks amounts in
     let ls = linesIn (state .line) c in
     ap (λ (r : List ℕ). answersTo book ls ++ r)
-    (output-is (chunkState state c marks amounts) (chunkBook state c marks amounts .board .marks) (chunkBook state c marks amounts .board .amounts) cs)
+    (output-is (chunkState state c marks amounts) (chunkBook state c marks amounts .board .marks) (chunkBook state c marks amounts .board .amounts) cs
+    ∙ ap (λ (b : Book). endsWith b (linesFrom (leftIn (state .line) c) (inputOf cs))) (book-all (chunkBook state c marks amounts)))
     ∙ sym (ap (endsWith book) (from-append (state .line) c (inputOf cs)) ∙ ends-append book ls (linesFrom (leftIn (state .line) c) (inputOf cs)))
 
 -- a transcript, by the lines as they are kept
@@ -158,10 +161,18 @@ kept-transcript input =
     ap (endsWith firstBook) (whole emptyLine [] input shows-empty)
     ∙ ap₂ (λ (s : List ℕ) (b : Book). s ++ totalText (bookTotal b)) (answers-kept firstBook (linesOf input)) (books-kept firstBook (linesOf input))
 
+-- the first state and a month's empty places are the first book
+pub first-book : bookOf (firstProgress .cover) (replicate monthPlaces false) (replicate monthPlaces (pos 0)) ≡ firstBook
+unfolding firstProgress fresh
+first-book i = record { count = 0; opened = false; days = 0; board = fresh-in 0 i }
+
 -- "Given .. it prints": from the first state and a month's empty places, any cutting of an input gives its transcript
 pub output-transcript : (cs : List (List ℕ)) → outputFrom firstProgress (replicate monthPlaces false) (replicate monthPlaces (pos 0)) cs ≡ ledgerTranscript (inputOf cs)
 unfolding firstProgress fresh
-output-transcript cs = output-is firstProgress (replicate monthPlaces false) (replicate monthPlaces (pos 0)) cs ∙ kept-transcript (inputOf cs)
+output-transcript cs =
+    output-is firstProgress (replicate monthPlaces false) (replicate monthPlaces (pos 0)) cs
+    ∙ ap (λ (b : Book). endsWith b (linesFrom emptyLine (inputOf cs))) first-book
+    ∙ kept-transcript (inputOf cs)
 
 -- ---- "It reads at most 1,000,000 lines and ignores the rest": once they have ended no further byte changes the transcript, also inside a line
 

@@ -11,7 +11,8 @@ pub(crate) fn in_place(days: u8, closed: bool, ordered: bool, calls: u64) -> u64
     let head = Head {
         days: days,
         closed: closed,
-        fee: Dollars(0),
+        basic: Dollars(0),
+        excess: Dollars(0),
     };
     let mut marks = [false; limits::PLACES];
     let mut amounts = [0; limits::PLACES];

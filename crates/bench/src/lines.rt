@@ -53,7 +53,7 @@ fn kind(k: u64) -> u8 {
     } else if k < 15 {
         kinds::WITHDRAW
     } else {
-        kinds::CLOSE + 1
+        kinds::EXCESS_FEE + 1
     }
 }
 

@@ -15,14 +15,14 @@ use Rattle.whole.specs.Whole.{minus, Within}
 use Rattle.whole.specs.Inner.{summable, summed}
 use Rattle.units.specs.Limits.{mostAmount, isAmount, mostLossFee, isLossFee, hoursOfDay, monthPlaces}
 use Rattle.whole.proofs.Choice.{and-both, both, passed}
-use Rattle.whole.proofs.Signed.{size-within}
+use Rattle.whole.proofs.Signed.{difference, size-within}
 use Rattle.whole.proofs.Sums.{in-within, in-within-below, within-in, inside-all, sum-within, sum-part, summed-is}
 use Rattle.history.specs.Rules.{placesOf}
 use Rattle.history.specs.Board.{Board, wellFormed, totalOn}
 use Rattle.history.specs.Inner.{runsFit, ledgerRefusal}
 use Rattle.history.proofs.Board.{Good, well-opens, ledger-good}
 use Rattle.head.proofs.Sound.{month-sound}
-use Rattle.head.specs.Rules.{Fee, amountRefusal, monthRules}
+use Rattle.head.specs.Rules.{Fee, basic, excess, amountRefusal, monthRules}
 
 -- an amount that is not refused, and one that is 0
 amount-of : (a : ℤ) → amountRefusal a ≡ 0 → Within mostAmount a
@@ -64,13 +64,23 @@ module _ (days : ℕ) (b : Board Fee Bool ℤ) (g : Good (monthRules days) b) wh
   pub all-within : Within (mostAmount * monthPlaces) (sumTo monthPlaces (λ p. getD (b .amounts) p (pos 0)))
   all-within = let w = sum-within monthPlaces (λ p. getD (b .amounts) p (pos 0)) (λ i l. amount-within i) in omega arith
 
-  pub fee-within : Within mostLossFee (b .fee tt)
-  fee-within = in-within-below (passed (isLossFee (b .fee tt)) 2 0 (g .fee-fits tt) .0)
+  pub fee-within : (f : Fee) → Within mostLossFee (b .fee f)
+  fee-within f = in-within-below (passed (isLossFee (b .fee f)) 2 0 (g .fee-fits f) .0)
+
+  -- less one fee, and less both
+  pub less-basic : Within (mostAmount * monthPlaces + mostLossFee) (sumTo monthPlaces (λ p. getD (b .amounts) p (pos 0)) -ℤ b .fee basic)
+  less-basic = let w = all-within in let f = fee-within basic in omega (arith, difference (sumTo monthPlaces (λ p. getD (b .amounts) p (pos 0))) (b .fee basic))
+
+  pub less-both : Within (mostAmount * monthPlaces + 2 * mostLossFee) (sumTo monthPlaces (λ p. getD (b .amounts) p (pos 0)) -ℤ b .fee basic -ℤ b .fee excess)
+  less-both =
+      let w = less-basic in
+      let f = fee-within excess in
+      omega (arith, difference (sumTo monthPlaces (λ p. getD (b .amounts) p (pos 0)) -ℤ b .fee basic) (b .fee excess))
 
   -- the month total is what the code works out
-  pub total-sum : summed (b .amounts) .sum -ℤ b .fee tt ≡ totalOn (monthRules days) b
+  pub total-sum : summed (b .amounts) .sum -ℤ b .fee basic -ℤ b .fee excess ≡ totalOn (monthRules days) b
   unfolding totalOn
-  total-sum = ap (λ (z : ℤ). z -ℤ b .fee tt) all-summed
+  total-sum = ap (λ (z : ℤ). z -ℤ b .fee basic -ℤ b .fee excess) all-summed
 
 -- a ledger in place that is not refused is one in form
 pub ledger-form : (days : ℕ) (b : Board Fee Bool ℤ) → ledgerRefusal (monthRules days) b ≡ 0 → Good (monthRules days) b

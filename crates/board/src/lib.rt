@@ -113,7 +113,7 @@ pub fn hour_in<'a>(head: Head, marks: &'a [bool], amounts: &'a [i64], place: usi
     told_of(k, Dollars(whole::at(amounts, place)))
 }
 
-// The month total: the amounts less the loss fee.
+// The month total: the amounts less both loss fees.
 pub fn total_in<'a>(head: Head, marks: &'a [bool], amounts: &'a [i64]) -> Told
     ensures { λ r. ⌜ r ≡ toldOf (totalIn (monthRules (head .days)) (boardIn head (now (marks .entry)) (now (amounts .entry)))) ⌝ }
 {
@@ -124,12 +124,14 @@ pub fn total_in<'a>(head: Head, marks: &'a [bool], amounts: &'a [i64]) -> Told
             amount: Dollars(0),
         };
     }
-    let fee = head.fee;
-    let f = fee.0;
+    let basic = head.basic;
+    let excess = head.excess;
+    let b = basic.0;
+    let e = excess.0;
     let s = whole::sum(amounts);
     Told {
         refusal: 0,
-        amount: Dollars(s.sum - f),
+        amount: Dollars(s.sum - b - e),
     }
 }
 

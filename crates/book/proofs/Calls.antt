@@ -13,19 +13,25 @@ use Rattle.units.specs.Refusals.{wrongLength, notOpen}
 use Rattle.history.specs.Rules.{Call, post, replace, withdraw, lossFee, close}
 use Rattle.history.specs.Board.{Board, fresh}
 use Rattle.history.specs.Inner.{runsFit, openRuling, openLeft, ruledIn, handedIn}
-use Rattle.head.specs.Rules.{Fee, Item, amountItem, monthRules}
+use Rattle.head.specs.Rules.{Fee, basic, excess, Item, amountItem, monthRules}
 use Rattle.head.specs.Inner.{boardIn, freshHead}
 use Rattle.head.specs.declared.Head.{Head}
 use Rattle.head.specs.declared.Headed.{Headed}
-use Rattle.head.proofs.Heads.{Heads, heads-fee, heads-close}
+use Rattle.head.proofs.Heads.{Heads, fees-all, fresh-in, heads-fee, heads-close}
 use Rattle.board.specs.Board.{openedIn}
 use Rattle.board.proofs.Core.{open-number, open-head}
-use Rattle.frame.specs.Kinds.{openKind, postKind, replaceKind, withdrawKind, lossFeeKind, closeKind, usesHour}
+use Rattle.frame.specs.Kinds.{openKind, postKind, replaceKind, withdrawKind, basicFeeKind, closeKind, excessFeeKind, usesHour}
 use Rattle.frame.specs.declared.Entry.{Entry}
 use Rattle.book.specs.Book.{Book, callOf, openRefusal, openBook, callRefusal, callBook, askedRefusal, askedBook, frameRefusal, frameBook}
-use Rattle.book.specs.Inner.{bookOf, placeCall, placeNumber, placeLeft, headCall, openTaken, headTaken}
+use Rattle.book.specs.Inner.{bookOf, coverOf, placeCall, placeNumber, placeLeft, headCall, openTaken, headTaken}
 use Rattle.book.specs.declared.Cover.{Cover}
 use Rattle.book.specs.declared.Taken.{Taken}
+
+-- a cover and the two runs have all of a book
+pub book-all : (book : Book) → bookOf (coverOf book) (book .board .marks) (book .board .amounts) ≡ book
+book-all book i =
+    let b = book .board in
+    record { count = book .count; opened = book .opened; days = book .days; board = record { closed = b .closed; fee = fees-all (b .fee) i; marks = b .marks; amounts = b .amounts } }
 
 -- ---- the call of a frame, by its kind
 
@@ -104,14 +110,15 @@ module _ (cover : Cover) (ms : List Bool) (xs : List ℤ) where
 
   pub called-head : (kind : ℕ) (amount : ℤ) → cover .opened ≡ true
       → Came (headCall kind amount) (headTaken cover runs-are (headCall kind amount) .refusal) (bookOf (headTaken cover runs-are (headCall kind amount) .cover) ms xs)
-  called-head kind amount o = go (eqb kind lossFeeKind) (eqb kind closeKind)
+  called-head kind amount o = go (eqb kind basicFeeKind) (eqb kind excessFeeKind) (eqb kind closeKind)
     where
-      go : (f s : Bool) →
-          let c = pick f (some (lossFee tt amount)) (pick s (some close) none) in
+      go : (b e s : Bool) →
+          let c = pick b (some (lossFee basic amount)) (pick e (some (lossFee excess amount)) (pick s (some close) none)) in
           Came c (headTaken cover runs-are c .refusal) (bookOf (headTaken cover runs-are c .cover) ms xs)
-      go true s = head-called (lossFee tt amount) o (λ t. heads-fee (cover .head) ms xs t amount)
-      go false true = head-called close o (λ t. heads-close (cover .head) ms xs t)
-      go false false = rw o (refl, refl)
+      go true e s = head-called (lossFee basic amount) o (λ t. heads-fee (cover .head) ms xs t basic amount)
+      go false true s = head-called (lossFee excess amount) o (λ t. heads-fee (cover .head) ms xs t excess amount)
+      go false false true = head-called close o (λ t. heads-close (cover .head) ms xs t)
+      go false false false = rw o (refl, refl)
 
   -- ---- an open
 
@@ -131,7 +138,10 @@ module _ (cover : Cover) (ms : List Bool) (xs : List ℤ) where
     unfolding openRefusal openBook openRuling fresh
     opened-yes headed ns ys o h z head m x =
         rw (eq-eqb (headed .refusal) 0 h, o, eq-eqb ruling 0 z)
-        (h ∙ sym z, λ i. record { count = cover .count; opened = true; days = head i .days; board = boardIn (head i) (m i) (x i) })
+        (h ∙ sym z, λ i. record { count = cover .count; opened = true; days = head i .days; board = (opens ∙ fresh-in days) i })
+      where
+        opens : boardIn (headed .head) ns ys ≡ boardIn (freshHead days) (fresh (monthRules days) .marks) (fresh (monthRules days) .amounts)
+        opens i = boardIn (head i) (m i) (x i)
 
     opened-no : (headed : Headed) (ns : List Bool) (ys : List ℤ) → cover .opened ≡ false → headed .refusal ≡ ruling → (ruling ≡ 0 → ⊥) → ns ≡ ms → ys ≡ xs
         → Opened (openTaken cover headed .refusal) (bookOf (openTaken cover headed .cover) ns ys)

@@ -1,4 +1,4 @@
--- Document 01, "Frames" and "Numbers that are turned away": what the program answers to a line, and what it keeps from line to line. Its ledger may stand on any two runs:
+-- Document 01, "Frames" and "Numbers that are turned away", and document 02, #101: what the program answers to a line, and what it keeps from line to line. Its ledger may stand on any two runs:
 -- 1 is answered where they are not the ledger's.
 use Prim.Native.Nat.{ℕ}
 use mathlib.Core.Bool.{Bool, true, not}
@@ -11,8 +11,8 @@ use Rattle.units.specs.Refusals.{badKind, notOpen}
 use Rattle.history.specs.Rules.{Call, post, replace, withdraw, lossFee, close}
 use Rattle.history.specs.Board.{Board, fresh}
 use Rattle.history.specs.Inner.{openTests, ruledIn, handedIn}
-use Rattle.head.specs.Rules.{Fee, Item, amountItem, monthRules}
-use Rattle.frame.specs.Kinds.{openKind, postKind, replaceKind, withdrawKind, lossFeeKind, closeKind}
+use Rattle.head.specs.Rules.{Fee, basic, excess, Item, amountItem, monthRules}
+use Rattle.frame.specs.Kinds.{openKind, postKind, replaceKind, withdrawKind, basicFeeKind, closeKind, excessFeeKind}
 use Rattle.frame.specs.declared.Entry.{Entry}
 use Rattle.frame.specs.declared.Reading.{Reading}
 use Rattle.frame.specs.declared.Reading.the-variants.{Frame, Refused}
@@ -32,8 +32,9 @@ callOf e =
     pick (eqb (e .kind) postKind) (some (post (e .day) (e .hour) (amountItem (e .amount .0))))
     (pick (eqb (e .kind) replaceKind) (some (replace (e .day) (e .hour) (amountItem (e .amount .0))))
     (pick (eqb (e .kind) withdrawKind) (some (withdraw (e .day) (e .hour)))
-    (pick (eqb (e .kind) lossFeeKind) (some (lossFee tt (e .amount .0)))
-    (pick (eqb (e .kind) closeKind) (some close) none))))
+    (pick (eqb (e .kind) basicFeeKind) (some (lossFee basic (e .amount .0)))
+    (pick (eqb (e .kind) excessFeeKind) (some (lossFee excess (e .amount .0)))
+    (pick (eqb (e .kind) closeKind) (some close) none)))))
 
 -- an open: 14 where it is the second, then 1 and 6
 unfoldable pub openRefusal : Book → ℕ → ℕ

@@ -11,10 +11,10 @@ use Rattle.units.specs.Units.{dollars}
 use Rattle.history.specs.Rules.{Call, post, replace, withdraw, lossFee, close}
 use Rattle.history.specs.Board.{Board}
 use Rattle.history.specs.Inner.{ruledIn, handedIn}
-use Rattle.head.specs.Rules.{Fee, Item, amountItem, monthRules}
+use Rattle.head.specs.Rules.{Fee, basic, excess, Item, amountItem, monthRules}
 use Rattle.head.specs.Inner.{boardIn, headedOf}
 use Rattle.head.specs.declared.Headed.{Headed}
-use Rattle.frame.specs.Kinds.{postKind, replaceKind, withdrawKind, lossFeeKind, closeKind}
+use Rattle.frame.specs.Kinds.{postKind, replaceKind, withdrawKind, basicFeeKind, closeKind, excessFeeKind}
 use Rattle.frame.specs.declared.Entry.{Entry}
 use Rattle.frame.specs.declared.Reading.{Reading}
 use Rattle.frame.specs.declared.Reading.the-variants.{Frame, Refused}
@@ -32,7 +32,7 @@ coverOf book =
     record {
       count = book .count;
       opened = book .opened;
-      head = record { days = book .days; closed = book .board .closed; fee = dollars (book .board .fee tt) };
+      head = record { days = book .days; closed = book .board .closed; basic = dollars (book .board .fee basic); excess = dollars (book .board .fee excess) };
     }
 
 -- ---- the steps of one line
@@ -60,7 +60,10 @@ placeLeft days b (some c) = handedIn (monthRules days) b c
 
 -- a call that touches none
 abbrev pub headCall : ℕ → ℤ → Option (Call Fee Item)
-headCall kind amount = pick (eqb kind lossFeeKind) (some (lossFee tt amount)) (pick (eqb kind closeKind) (some close) none)
+headCall kind amount =
+    pick (eqb kind basicFeeKind) (some (lossFee basic amount))
+    (pick (eqb kind excessFeeKind) (some (lossFee excess amount))
+    (pick (eqb kind closeKind) (some close) none))
 
 -- a refusal, and the cover as it was; and a head's answer in the cover's place
 abbrev pub turned : ℕ → Cover → Taken

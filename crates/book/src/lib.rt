@@ -157,8 +157,11 @@ fn call_head(cover: Cover, kind: u8, amount: Dollars, runs: bool) -> Taken
     ensures { λ r. ⌜ r ≡ headTaken cover runs (headCall kind (amount .0)) ⌝ }
 {
     let head = cover.head;
-    if kind == kinds::LOSS_FEE {
-        return on_head(cover, runs, head::loss_fee(head, amount));
+    if kind == kinds::BASIC_FEE {
+        return on_head(cover, runs, head::set_basic_fee(head, amount));
+    }
+    if kind == kinds::EXCESS_FEE {
+        return on_head(cover, runs, head::set_excess_fee(head, amount));
     }
     if kind == kinds::CLOSE {
         return on_head(cover, runs, head::close(head));

@@ -21,12 +21,13 @@ use Rattle.head.specs.Rules.{Fee, Item, monthRules}
 use Rattle.head.proofs.Sound.{month-sound}
 use Rattle.board.specs.Board.{toldOf}
 use Rattle.board.specs.declared.Told.{Told}
-use Rattle.month.specs.Month.{rulesOf, boardOf, freshMonth, openOf, monthAnswer, hourTold, dayTold, totalTold, standingTold}
+use Rattle.month.specs.Month.{rulesOf, boardOf, freshMonth, openOf, monthAnswer, hourTold, dayTold, feeTold, totalTold, standingTold}
 use Rattle.month.specs.declared.Month.{Month}
 use Rattle.month.specs.declared.Booked.{Booked}
 use Rattle.month.specs.declared.Counted.{Counted}
+use Rattle.month.proofs.Core.{board-all}
 use Rattle.month.proofs.Month.«open».Reads as open-reads
-use Rattle.demand.specs.Ledger.{booked, Answers, monthLedger}
+use Rattle.demand.specs.Ledger.{booked, Answers, FeeAnswers, monthLedger}
 
 -- ---- the laws: the contracts say what the definitions on the board say
 
@@ -36,13 +37,23 @@ unfolding monthAnswer refusalOf nextOf rulingOn handed nextOn
 answer-is m (Call.post d x a) k n e = e
 answer-is m (Call.replace d x a) k n e = e
 answer-is m (Call.withdraw d x) k n e = e
-answer-is m (Call.lossFee f z) k n e = e
+answer-is m (Call.lossFee Fee.basic z) k n e = e
+answer-is m (Call.lossFee Fee.excess z) k n e = e
 answer-is m Call.close k n e = e
+
+-- and so is each fee's
+pub fee-answer-is : (m : Month) (f : Fee) (r : ℕ × ℤ) → FeeAnswers m f r → toldOf r ≡ feeTold m f
+fee-answer-is m Fee.basic r e = e
+fee-answer-is m Fee.excess r e = e
 
 pub step : (m : Month) (c : Call Fee Item) (k : ℕ) (n : Month) → booked k n ≡ monthAnswer m c
     → (k ≡ refusalOf (rulesOf m) (boardOf m) c) × (n .days ≡ m .days) × (boardOf n ≡ nextOf (rulesOf m) (boardOf m) c)
 unfolding monthAnswer
-step m c k n e = (ap (λ (b : Booked). b .refusal) e, ap (λ (b : Booked). b .month .days) e, ap (λ (b : Booked). boardOf (b .month)) e)
+step m c k n e = (
+  ap (λ (b : Booked). b .refusal) e,
+  ap (λ (b : Booked). b .month .days) e,
+  ap (λ (b : Booked). boardOf (b .month)) e ∙ board-all (m .days) (nextOf (rulesOf m) (boardOf m) c),
+)
 
 pub opens-fresh : (days : ℕ) (m : Month) → booked 0 m ≡ openOf days → (isDays days ≡ true) × (m .days ≡ days) × (boardOf m ≡ fresh (monthRules days))
 unfolding openOf freshMonth fresh
@@ -50,7 +61,7 @@ opens-fresh days m e =
     by-test (isDays days)
     (λ (t : isDays days ≡ true).
     let f : m ≡ freshMonth days = ap (λ (b : Booked). b .month) e ∙ ap (λ b. pick b (freshMonth days) (freshMonth 0)) t in
-    (t, ap (λ (n : Month). n .days) f, ap boardOf f))
+    (t, ap (λ (n : Month). n .days) f, ap boardOf f ∙ board-all days (fresh (monthRules days))))
     (λ (t : isDays days ≡ false).
     let z : 0 ≡ notInMonth = ap (λ (b : Booked). b .refusal) e ∙ ap (λ b. unless b notInMonth 0) t in
     absurd (omega arith))
@@ -59,7 +70,7 @@ pub reads : (r t : ℕ × ℤ) → toldOf r ≡ toldOf t → r ≡ t
 reads r t e = ap (λ (x : Told). (x .refusal, x .amount .0)) e
 
 unfoldable pub month-laws : Lawful monthLedger
-unfolding hourTold dayTold totalTold standingTold
+unfolding hourTold dayTold feeTold totalTold standingTold
 month-laws =
     record {
       plan = λ m. m .days;
@@ -70,6 +81,7 @@ month-laws =
       hour = λ m d x r e. reads r _ e;
       day = λ m d r e. reads r _ e;
       part = λ m q r e. absurd e;
+      fee = λ m f r e. reads r _ (fee-answer-is m f r e);
       total = λ m r e. reads r _ e;
       standing = λ m r e. ap (λ (x : Counted). (x .refusal, x .standing)) e;
     }

@@ -55,14 +55,15 @@ able =
     met m (Call.post d x a) = refl
     met m (Call.replace d x a) = refl
     met m (Call.withdraw d x) = refl
-    met m (Call.lossFee f z) = refl
+    met m (Call.lossFee Fee.basic z) = refl
+    met m (Call.lossFee Fee.excess z) = refl
     met m Call.close = refl
 
 -- what the type holds, as the toolchain says it of a month that is handed in: a mark and an amount for each place
 held : (m : Month) → GoodsP tt total-kinds.ps (m, tt) → Held (rulesOf m) (boardOf m)
 held m g =
     let f = owed month.the-type month-type-laws.the-laws m _ (g .0) in
-    record { marks = length-unmapped Bool (m .marks) monthPlaces (f .1 .1 .1 .0 .1 .0 .1); amounts = length-unmapped ℤ (m .amounts) monthPlaces (f .1 .1 .1 .1 .0 .1 .0 .1) }
+    record { marks = length-unmapped Bool (m .marks) monthPlaces (f .1 .1 .1 .1 .0 .1 .0 .1); amounts = length-unmapped ℤ (m .amounts) monthPlaces (f .1 .1 .1 .1 .1 .0 .1 .0 .1) }
 
 -- of a month that lies in its type, which is what the toolchain holds of every one that is handed in
 module _ (m : Month) (typed : GoodsP tt total-kinds.ps (m, tt)) where

@@ -21,18 +21,35 @@ pub(crate) fn limits() {
     loss_fees(m);
 }
 
+// Document 01's loss example (document 02, #101): a basic fee set twice and an excess fee once, and both in a closed
+// month.
+pub(crate) fn two_fees() {
+    text::heading(b"the two loss fees");
+    let m = opened(31);
+    let m = book(b"post", m.post(3, 10, Dollars(300_000)));
+    let m = book(b"basic fee", m.set_basic_fee(Dollars(1)));
+    let m = book(b"excess fee", m.set_excess_fee(Dollars(100_800)));
+    read_fees(m);
+    let m = book(b"basic fee again", m.set_basic_fee(Dollars(151_200)));
+    read_fees(m);
+    let m = book(b"close", m.close());
+    let m = book(b"basic fee closed", m.set_basic_fee(Dollars(2)));
+    let m = book(b"excess fee closed", m.set_excess_fee(Dollars(2)));
+    read_fees(m);
+}
+
 pub(crate) fn largest() {
     text::heading(b"the largest month");
     let most = full(1_000_000_000);
     book(
-        b"most and the largest fee",
-        most.loss_fee(Dollars(100_000_000_000)),
+        b"most and the largest fees",
+        dearest(most).set_excess_fee(Dollars(100_000_000_000)),
     );
     read_out(most);
     let least = full(-1_000_000_000);
     book(
-        b"least and the largest fee",
-        least.loss_fee(Dollars(100_000_000_000)),
+        b"least and the largest fees",
+        dearest(least).set_excess_fee(Dollars(100_000_000_000)),
     );
     read_out(least);
 }
@@ -49,8 +66,12 @@ pub(crate) fn forged() {
     forge(b"forged: 27 days", m);
     let mut m = opened(30);
     let fee = Dollars(-1);
-    m.fee = fee;
-    forge(b"forged: a fee below 0", m);
+    m.basic = fee;
+    forge(b"forged: a basic fee below 0", m);
+    let mut m = opened(30);
+    let fee = Dollars(100_000_000_001);
+    m.excess = fee;
+    forge(b"forged: an excess fee past the limit", m);
     let mut m = opened(30);
     m.marks[5] = true;
     m.amounts[5] = 1_000_000_001;
@@ -84,7 +105,7 @@ fn posted() -> Month {
     let m = book(b"open 31", Month::open(31));
     let m = book(b"post", m.post(3, 10, Dollars(7_800)));
     let m = book(b"post again", m.post(3, 10, Dollars(6_280)));
-    let m = book(b"loss fee", m.loss_fee(Dollars(8_658)));
+    let m = book(b"loss fee", m.set_basic_fee(Dollars(8_658)));
     read_out(m);
     m
 }
@@ -124,6 +145,20 @@ fn read_out(m: Month) {
     text::end();
 }
 
+// Both loss fees as they were last set, each with its refusal first.
+fn read_fees(m: Month) {
+    io::write_all(1, b"fees");
+    let b = m.basic_fee();
+    let basic = b.amount;
+    text::number(b.refusal as i64);
+    text::number(basic.0);
+    let e = m.excess_fee();
+    let excess = e.amount;
+    text::number(e.refusal as i64);
+    text::number(excess.0);
+    text::end();
+}
+
 // A withdrawn hour posts again.
 fn changed(m: Month) -> Month {
     let m = book(b"replace", m.replace(3, 10, Dollars(6_280)));
@@ -131,7 +166,7 @@ fn changed(m: Month) -> Month {
     let m = book(b"withdraw empty", m.withdraw(3, 10));
     let m = book(b"replace empty", m.replace(3, 10, Dollars(1)));
     let m = book(b"post withdrawn", m.post(3, 10, Dollars(-5)));
-    let m = book(b"loss fee again", m.loss_fee(Dollars(100)));
+    let m = book(b"loss fee again", m.set_basic_fee(Dollars(100)));
     read_out(m);
     m
 }
@@ -143,7 +178,7 @@ fn closed(m: Month) {
     let m = book(b"post closed", m.post(4, 0, Dollars(1)));
     let m = book(b"replace closed", m.replace(3, 10, Dollars(1)));
     let m = book(b"withdraw closed", m.withdraw(3, 10));
-    let m = book(b"fee closed", m.loss_fee(Dollars(1)));
+    let m = book(b"fee closed", m.set_basic_fee(Dollars(1)));
     read_out(m);
 }
 
@@ -171,11 +206,26 @@ fn amounts(m: Month) {
 }
 
 fn loss_fees(m: Month) {
-    book(b"fee zero", m.loss_fee(Dollars(0)));
-    book(b"fee below", m.loss_fee(Dollars(-1)));
-    book(b"fee most", m.loss_fee(Dollars(100_000_000_000)));
-    book(b"fee above", m.loss_fee(Dollars(100_000_000_001)));
-    book(b"fee i64", m.loss_fee(Dollars(i64::MAX)));
+    book(b"fee zero", m.set_basic_fee(Dollars(0)));
+    book(b"fee below", m.set_basic_fee(Dollars(-1)));
+    book(b"fee most", m.set_basic_fee(Dollars(100_000_000_000)));
+    book(b"fee above", m.set_basic_fee(Dollars(100_000_000_001)));
+    book(b"fee i64", m.set_basic_fee(Dollars(i64::MAX)));
+    book(b"excess fee below", m.set_excess_fee(Dollars(-1)));
+    book(
+        b"excess fee most",
+        m.set_excess_fee(Dollars(100_000_000_000)),
+    );
+    book(
+        b"excess fee above",
+        m.set_excess_fee(Dollars(100_000_000_001)),
+    );
+}
+
+// The month with the largest basic fee.
+fn dearest(m: Month) -> Month {
+    let b = m.set_basic_fee(Dollars(100_000_000_000));
+    b.month
 }
 
 // A month with every hour posted.
@@ -202,9 +252,11 @@ fn forge(label: &[u8], m: Month) {
     book(b"post", m.post(3, 10, Dollars(1)));
     book(b"replace", m.replace(3, 10, Dollars(1)));
     book(b"withdraw", m.withdraw(3, 10));
-    book(b"loss fee", m.loss_fee(Dollars(1)));
+    book(b"loss fee", m.set_basic_fee(Dollars(1)));
+    book(b"excess fee", m.set_excess_fee(Dollars(1)));
     book(b"close", m.close());
     read_out(m);
+    read_fees(m);
 }
 
 // A post in place, and what stands there after it.

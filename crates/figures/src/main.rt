@@ -15,6 +15,7 @@ fn main() {
     curve_cases::conversion();
     ledger_cases::a_month();
     ledger_cases::limits();
+    ledger_cases::two_fees();
     ledger_cases::largest();
     ledger_cases::forged();
     ledger_cases::in_place();

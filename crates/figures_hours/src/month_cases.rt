@@ -148,7 +148,7 @@ fn day(m: Month, day: u8) {
 
 // The loss fee, then the month total.
 fn total(m: Month, fee: i64) {
-    let b = m.loss_fee(Dollars(fee));
+    let b = m.set_basic_fee(Dollars(fee));
     let after = b.month;
     let t = after.total();
     let sum = t.amount;

@@ -6,7 +6,7 @@ use mathlib.Core.Path.{_≡_, refl, sym, ap, _∙_}
 use mathlib.Core.Bool.{true, false}
 use mathlib.Core.List.{List, [], _∷_, _++_, append-nil}
 use lib.Dec.{eqb}
-use lib.ListN.{length, getD, take, drop, set, drop-of-length-le, length-set}
+use lib.ListN.{length, getD, take, drop, set, drop-of-length-le, length-append, length-set}
 use lib.Seq.{drop-cons, length-take-le, set-at, take-at}
 use borrow.Author.Tests.{ne-eqb, eq-eqb, eqb-true}
 use borrow.Rule.Slice.PartMut.{putMid, midOf, same-len-mid}
@@ -17,6 +17,7 @@ use Rattle.frame.specs.Digits.{allDigits, bytesOf}
 use Rattle.frame.specs.Numbers.{bytesIn, byteSum}
 use Rattle.frame.specs.Frame.{lineDigits, checked, lineTests, lineRefusal, zeros, openedOf, inForm, entryOf, readRefusal, readingOf, bodyOf, withSum, lineOf, writeRefusal, written}
 use Rattle.frame.specs.declared.Entry.{Entry}
+use Rattle.frame.proofs.Digits.{length-digits}
 use Rattle.frame.specs.declared.Opened.{Opened}
 use Rattle.frame.specs.declared.Reading.the-variants.{Frame, Refused}
 
@@ -109,6 +110,10 @@ eleven l e = length-take-le 11 l (omega arith)
 pub length-body : (entry : Entry) → length (bodyOf entry) ≡ 11
 unfolding bodyOf
 length-body entry = refl
+
+pub length-line : (entry : Entry) → length (lineOf entry) ≡ lineDigits
+unfolding lineOf withSum
+length-line entry = length-digits (withSum (bodyOf entry)) ∙ omega (arith, length-append (bodyOf entry) (byteSum (bodyOf entry) % 256 ∷ []), length-body entry)
 
 -- three bytes, and a number after them
 abbrev three : List ℕ → ℕ → ℕ → ℕ → List ℕ

@@ -7,7 +7,7 @@ use mathlib.Core.List.{List, [], _∷_}
 use lib.IntN.{pos}
 use Rattle.frame.specs.Digits.{isHexDigit, hexValueOf}
 use Rattle.frame.specs.Numbers.{signedIn}
-use Rattle.frame.specs.Kinds.{openKind, postKind, lossFeeKind}
+use Rattle.frame.specs.Kinds.{openKind, postKind, basicFeeKind}
 use Rattle.frame.specs.Frame.{checked, lineRefusal, inForm, entryOf, readRefusal, readingOf}
 use Rattle.frame.specs.declared.Reading.{Reading}
 use Rattle.frame.specs.declared.Reading.the-variants.{Frame}
@@ -25,6 +25,6 @@ framed kind day hour dollars = Frame (record { kind = kind; day = day; hour = ho
 
 samples :
     readings ("001F0000000000000000001F" ∷ "01030A0000000000001E78A4" ∷ "01030A0000000000001888AE" ∷ "04000000000000000021D2F7" ∷ [])
-    ≡ framed openKind 31 0 0 ∷ framed postKind 3 10 7800 ∷ framed postKind 3 10 6280 ∷ framed lossFeeKind 0 0 8658 ∷ []
+    ≡ framed openKind 31 0 0 ∷ framed postKind 3 10 7800 ∷ framed postKind 3 10 6280 ∷ framed basicFeeKind 0 0 8658 ∷ []
 unfolding readingOf readRefusal lineRefusal checked inForm entryOf signedIn isHexDigit hexValueOf
 samples = refl

@@ -1,4 +1,4 @@
-// Document 01, "Frames": the kinds. specs/Kinds.antt says which fields each uses.
+// Document 01, "Frames", and document 02, #101: the kinds. specs/Kinds.antt says which fields each uses.
 pub const OPEN: u8 = 0;
 
 pub const POST: u8 = 1;
@@ -7,6 +7,8 @@ pub const REPLACE: u8 = 2;
 
 pub const WITHDRAW: u8 = 3;
 
-pub const LOSS_FEE: u8 = 4;
+pub const BASIC_FEE: u8 = 4;
 
 pub const CLOSE: u8 = 5;
+
+pub const EXCESS_FEE: u8 = 6;

@@ -124,7 +124,7 @@ fn in_form(entry: Entry) -> bool
     if (k == kinds::POST) | (k == kinds::REPLACE) {
         return true;
     }
-    (k <= kinds::CLOSE)
+    (k <= kinds::EXCESS_FEE)
         & (uses_day(k) | (entry.day == 0))
         & (uses_hour(k) | (entry.hour == 0))
         & (uses_amount(k) | is_zero(amount.0))
@@ -145,7 +145,7 @@ fn uses_hour(k: u8) -> bool
 fn uses_amount(k: u8) -> bool
     ensures { λ r. ⌜ r ≡ usesAmount k ⌝ }
 {
-    (k == kinds::POST) | (k == kinds::REPLACE) | (k == kinds::LOSS_FEE)
+    (k == kinds::POST) | (k == kinds::REPLACE) | (k == kinds::BASIC_FEE) | (k == kinds::EXCESS_FEE)
 }
 
 fn is_zero(z: i64) -> bool

@@ -1,34 +1,38 @@
--- Demand 1: a refused frame has its number and zeros. By the number. Assumes nothing.
+-- Demand 1: refused frames have their number and zeros. By the number. Assumes nothing.
 use Prim.Native.Nat.{ℕ}
-use mathlib.Core.Path.{_≡_, sym, ap, _∙_}
+use mathlib.Core.Path.{_≡_, refl, sym, ap, _∙_}
 use mathlib.Core.List.{List}
 use lib.IntN.{ℤ}
 use denote.Ref.{now}
 use Rattle.whole.specs.Choice.{orElse}
 use Rattle.whole.specs.Refused.{RefusedBare}
 use Rattle.whole.proofs.Choice.{kept-old}
-use Rattle.frame.specs.declared.Entry.{Entry}
+use Rattle.whole.proofs.Refused.{refused-bare}
+use Rattle.numbers.specs.Numbers.{number}
+use Rattle.loss.specs.Loss.{lossAnswer}
 use Rattle.words.specs.declared.Framing.{Framing}
-use Rattle.words.specs.declared.Framing.the-variants.{DregFrame, EdregFrame, Frame}
-use Rattle.frames.specs.Frames.{entryRefusal, noEntry, framedBy, frameAsked, hourPost, frameAnswer}
+use Rattle.words.specs.declared.Framing.the-variants.{DregFrame, EdregFrame, Frame, LossFrames}
+use Rattle.frames.specs.Frames.{entryRefusal, noEntry, single, framedBy, frameAsked, hourPost, lossFrames, frameAnswer}
 use Rattle.frames.specs.declared.Framed.{Framed}
 use Rattle.frames.proofs.answer.Reads as answer
 use Rattle.frames.proofs.answer.Kinds as answer-kinds
 
 abbrev bare : ℕ → Framed
-bare k = record { refusal = k; entry = noEntry }
+bare k = single k noEntry
 
 framed-bare : (before : ℕ) (kind day hour amount : ℤ) → (framedBy before kind day hour amount .refusal ≡ 0 → ⊥)
     → framedBy before kind day hour amount ≡ bare (framedBy before kind day hour amount .refusal)
 unfolding framedBy
 framed-bare before kind day hour amount f =
-    ap (λ (e : Entry). record { refusal = orElse before (entryRefusal kind day hour); entry = e }) (kept-old _ _ f)
+    ap (single (orElse before (entryRefusal kind day hour))) (kept-old _ _ f)
 
 answer-bare : (asks : Framing) (n terms bands readings : List ℤ) → (let x = frameAnswer asks n terms bands readings in (x .refusal ≡ 0 → ⊥) → x ≡ bare (x .refusal))
-unfolding frameAsked hourPost
+unfolding frameAsked hourPost lossFrames
 answer-bare DregFrame n terms bands readings f = framed-bare _ _ _ _ _ f
 answer-bare EdregFrame n terms bands readings f = framed-bare _ _ _ _ _ f
 answer-bare Frame n terms bands readings f = framed-bare _ _ _ _ _ f
+answer-bare LossFrames n terms bands readings f =
+    refused-bare (λ (x : Framed). x .refusal) bare (lossAnswer (number n 0) (number n 1) (number n 2) (number n 3) .refusal) _ refl refl refl f
 
 answer-refused-keeps : RefusedBare 2 answer-kinds.ps answer-kinds.r (λ κs x. x .refusal) (λ κs a k. bare k) answer.Post
 answer-refused-keeps κs a x s p f =

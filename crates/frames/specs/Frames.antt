@@ -1,19 +1,21 @@
--- The questions that print a frame: the entry that it holds (docs/DESK.md, "Questions").
+-- The questions that print a frame, or two: the entries that they hold (docs/DESK.md, "Questions").
 use Prim.Native.Nat.{ℕ}
-use mathlib.Core.Bool.{_&&_}
+use mathlib.Core.Bool.{true, false, _&&_}
 use mathlib.Core.List.{List, [], _∷_}
 use lib.IntN.{ℤ, pos}
 use Rattle.whole.specs.Choice.{inOrder, orElse, kept}
 use Rattle.units.specs.Refusals.{notInMonth, badKind}
 use Rattle.units.specs.Units.{dollars}
-use Rattle.frame.specs.Kinds.{postKind}
+use Rattle.units.specs.declared.Dollars.{Dollars}
+use Rattle.frame.specs.Kinds.{postKind, basicFeeKind, excessFeeKind}
 use Rattle.frame.specs.declared.Entry.{Entry}
 use Rattle.numbers.specs.Numbers.{number, isByte, byteOf}
 use Rattle.words.specs.declared.Hour.{Hour}
 use Rattle.words.specs.declared.Hour.the-variants.{Dreg, Edreg}
 use Rattle.words.specs.declared.Framing.{Framing}
-use Rattle.words.specs.declared.Framing.the-variants.{DregFrame, EdregFrame, Frame}
+use Rattle.words.specs.declared.Framing.the-variants.{DregFrame, EdregFrame, Frame, LossFrames}
 use Rattle.hours.specs.Hours.{hourAsked, settlement}
+use Rattle.loss.specs.Loss.{lossAnswer}
 use Rattle.frames.specs.declared.Framed.{Framed}
 
 -- 13 for a kind that is no byte, then 6 for a day or an hour (desk rule)
@@ -24,11 +26,15 @@ entryRefusal kind day hour = inOrder ((isByte kind, badKind) ∷ (isByte day && 
 abbrev pub noEntry : Entry
 noEntry = record { kind = 0; day = 0; hour = 0; amount = dollars (pos 0) }
 
+-- one frame alone
+abbrev pub single : ℕ → Entry → Framed
+single k entry = record { refusal = k; entry = entry; paired = false; second = noEntry }
+
 -- an entry, after the number of a refusal that comes before its own
 unfoldable pub framedBy : ℕ → ℤ → ℤ → ℤ → ℤ → Framed
 framedBy before kind day hour amount =
     let k = orElse before (entryRefusal kind day hour) in
-    record { refusal = k; entry = kept k (record { kind = byteOf kind; day = byteOf day; hour = byteOf hour; amount = dollars amount }) noEntry }
+    single k (kept k (record { kind = byteOf kind; day = byteOf day; hour = byteOf hour; amount = dollars amount }) noEntry)
 
 -- KIND DAY HOUR AMOUNT
 unfoldable pub frameAsked : List ℤ → Framed
@@ -39,7 +45,20 @@ unfoldable pub hourPost : Hour → List ℤ → List ℤ → List ℤ → List �
 hourPost hour n terms bands readings =
     let a = settlement (hourAsked hour terms bands readings) in framedBy (a .refusal) (pos postKind) (number n 0) (number n 1) (a .amount .0)
 
+-- a loss fee's entry uses no day and no hour
+abbrev pub feeEntry : ℕ → Dollars → Entry
+feeEntry kind fee = record { kind = kind; day = 0; hour = 0; amount = fee }
+
+-- CHARGED DISCHARGED VOLTAGE COST (document 02, #101): the frame that sets the basic fee, and the one that sets the excess fee
+unfoldable pub lossFrames : List ℤ → Framed
+lossFrames n =
+    let a = lossAnswer (number n 0) (number n 1) (number n 2) (number n 3) in
+    kept (a .refusal)
+    (record { refusal = 0; entry = feeEntry basicFeeKind (a .basic); paired = true; second = feeEntry excessFeeKind (a .excess) })
+    (single (a .refusal) noEntry)
+
 abbrev pub frameAnswer : Framing → List ℤ → List ℤ → List ℤ → List ℤ → Framed
 frameAnswer DregFrame n terms bands readings = hourPost Dreg n terms bands readings
 frameAnswer EdregFrame n terms bands readings = hourPost Edreg n terms bands readings
 frameAnswer Frame n terms bands readings = frameAsked n
+frameAnswer LossFrames n terms bands readings = lossFrames n

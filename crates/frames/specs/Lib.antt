@@ -1,2 +1,2 @@
--- The questions that print a frame.
+-- The questions that print a frame, or two.
 pub mod Frames

@@ -9,14 +9,16 @@ use Rattle.units.specs.Limits.{isDays}
 use Rattle.units.specs.Units.{dollars}
 use Rattle.history.specs.Rules.{Call}
 use Rattle.history.specs.Board.{Board, nextOn}
-use Rattle.head.specs.Rules.{Fee, Item, monthRules}
+use Rattle.head.specs.Rules.{Fee, basic, excess, Item, monthRules}
 use Rattle.head.specs.Inner.{boardIn, freshHead, openedHead, headedOf}
 use Rattle.head.specs.declared.Head.{Head}
 use Rattle.head.specs.declared.Headed.{Headed}
 use Rattle.head.proofs.«open».Reads as open-reads
 use Rattle.head.proofs.«open».Kinds as open-kinds
-use Rattle.head.proofs.loss_fee.Reads as loss-fee-reads
-use Rattle.head.proofs.loss_fee.Kinds as loss-fee-kinds
+use Rattle.head.proofs.set_basic_fee.Reads as set-basic-fee-reads
+use Rattle.head.proofs.set_basic_fee.Kinds as set-basic-fee-kinds
+use Rattle.head.proofs.set_excess_fee.Reads as set-excess-fee-reads
+use Rattle.head.proofs.set_excess_fee.Kinds as set-excess-fee-kinds
 use Rattle.head.proofs.close.Reads as close-reads
 use Rattle.head.proofs.close.Kinds as close-kinds
 
@@ -34,11 +36,14 @@ head-same : (head : Head) (c : Call Fee Item) (x : Headed) → x ≡ headedOf he
 unfolding headedOf
 head-same head c x p f =
     let old = kept-old (nextOn (monthRules (head .days)) (boardIn head [] []) c) (boardIn head [] []) (λ z. f (ap (λ (h : Headed). h .refusal) p ∙ z)) in
-    let left : x .head ≡ head = ap (λ (h : Headed). h .head) p ∙ ap (λ (b : Board Fee Bool ℤ). record { days = head .days; closed = b .closed; fee = dollars (b .fee tt) }) old in
+    let left : x .head ≡ head = ap (λ (h : Headed). h .head) p ∙ ap (λ (b : Board Fee Bool ℤ). record { days = head .days; closed = b .closed; basic = dollars (b .fee basic); excess = dollars (b .fee excess) }) old in
     λ i. record { refusal = x .refusal; head = left i }
 
-loss-fee-refused-keeps : RefusedBare 0 loss-fee-kinds.ps loss-fee-kinds.r (λ κs x. x .refusal) (λ κs a k. record { refusal = k; head = a .0 }) loss-fee-reads.Post
-loss-fee-refused-keeps κs a x s p f = head-same (a .0) _ x p f
+set-basic-fee-refused-keeps : RefusedBare 0 set-basic-fee-kinds.ps set-basic-fee-kinds.r (λ κs x. x .refusal) (λ κs a k. record { refusal = k; head = a .0 }) set-basic-fee-reads.Post
+set-basic-fee-refused-keeps κs a x s p f = head-same (a .0) _ x p f
+
+set-excess-fee-refused-keeps : RefusedBare 0 set-excess-fee-kinds.ps set-excess-fee-kinds.r (λ κs x. x .refusal) (λ κs a k. record { refusal = k; head = a .0 }) set-excess-fee-reads.Post
+set-excess-fee-refused-keeps κs a x s p f = head-same (a .0) _ x p f
 
 close-refused-keeps : RefusedBare 0 close-kinds.ps close-kinds.r (λ κs x. x .refusal) (λ κs a k. record { refusal = k; head = a .0 }) close-reads.Post
 close-refused-keeps κs a x s p f = head-same (a .0) _ x p f

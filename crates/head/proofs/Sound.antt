@@ -1,6 +1,7 @@
--- The month's rules are sound: its days' hours have places, and its amounts and its fee are as the theory of any ledger asks. Assumes nothing.
+-- The month's rules are sound: its days' hours have places, and its amounts and its fees are as the theory of any ledger asks. Assumes nothing.
 use Prim.Native.Nat.{ℕ, suc, _≤_}
 use mathlib.Core.Path.{_≡_, refl, sym, ap}
+use mathlib.Core.List.{[], _∷_}
 use mathlib.Core.Bool.{true}
 use native.Mathlib.Omega.{arith}
 use lib.Dec.{leb, eqb}
@@ -10,11 +11,11 @@ use Rattle.whole.specs.Whole.{inRange}
 use Rattle.whole.specs.Folds.{foldTo}
 use Rattle.units.specs.Limits.{leastDays, mostDays, isDays, hoursOfDay, isAmount, isLossFee}
 use Rattle.units.specs.Refusals.{badMoney}
-use Rattle.whole.proofs.Choice.{and-both}
-use Rattle.history.specs.Rules.{Sound}
+use Rattle.whole.proofs.Choice.{and-both, clash}
+use Rattle.history.specs.Rules.{Sound, isAmong}
 use Rattle.history.proofs.Days.{hours-even}
 use Rattle.history.proofs.Reach.{Small, unless-small}
-use Rattle.head.specs.Rules.{amountRefusal, monthRules}
+use Rattle.head.specs.Rules.{Fee, basic, excess, sameFee, amountRefusal, monthRules}
 
 zero-is : (a : ℤ) → eqb (natAbs a) 0 ≡ true → a ≡ pos 0
 zero-is (pos n) e = ap pos (eqb-true n 0 e)
@@ -22,6 +23,16 @@ zero-is (negsuc n) e = let h : suc n ≡ 0 = eqb-true (suc n) 0 e in absurd (ome
 
 pub most-days : (days : ℕ) → isDays days ≡ true → days ≤ mostDays
 most-days days e = leb-true days mostDays (and-both (leb leastDays days) (leb days mostDays) e .1)
+
+same-fee : (f g : Fee) → sameFee f g ≡ true → f ≡ g
+same-fee basic basic e = refl
+same-fee basic excess e = clash e
+same-fee excess basic e = clash e
+same-fee excess excess e = refl
+
+every-fee : (f : Fee) → isAmong sameFee (basic ∷ excess ∷ []) f ≡ true
+every-fee basic = refl
+every-fee excess = refl
 
 pub month-sound : (days : ℕ) → isDays days ≡ true → Sound (monthRules days)
 unfolding inRange foldTo
@@ -35,8 +46,8 @@ month-sound days e =
       enters = λ a ok. (refl, eq-eqb (amountRefusal (a .1)) 0 ok);
       stays = λ a m f. (eqb-true (amountRefusal (a .1)) 0 f, λ i. (sym m i, a .1));
       no-fee = λ _. refl;
-      same-is = λ _ _ _. refl;
-      every-fee = λ _. refl;
+      same-is = same-fee;
+      every-fee = every-fee;
       no-worth = refl;
       no-part = λ _. refl;
       in-parts = λ a _ _. +ℤ-idl (a .1);

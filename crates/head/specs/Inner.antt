@@ -1,4 +1,4 @@
--- What the code keeps of a month beside its places, and no rule of the papers: a head has the days, the loss fee and whether the month is closed. What the calls that touch no
+-- What the code keeps of a month beside its places, and no rule of the papers: a head has the days, the two loss fees and whether the month is closed. What the calls that touch no
 -- place answer on it, and an hour's place.
 use Prim.Native.Nat.{ℕ, _+_, _-_}
 use mathlib.Core.Bool.{Bool, false, _&&_}
@@ -9,9 +9,10 @@ use Rattle.whole.specs.Choice.{pick, unless, kept}
 use Rattle.units.specs.Limits.{isDays, hoursOfDay, monthPlaces}
 use Rattle.units.specs.Refusals.{notReachable, notInMonth}
 use Rattle.units.specs.Units.{dollars}
+use Rattle.units.specs.declared.Dollars.{Dollars}
 use Rattle.history.specs.Rules.{Call, hoursTo}
 use Rattle.history.specs.Board.{Board, feesFit, rulingOn, nextOn}
-use Rattle.head.specs.Rules.{Fee, Item, monthRules}
+use Rattle.head.specs.Rules.{Fee, basic, excess, Item, monthRules}
 use Rattle.head.specs.declared.Head.{Head}
 use Rattle.head.specs.declared.Headed.{Headed}
 
@@ -19,19 +20,24 @@ use Rattle.head.specs.declared.Headed.{Headed}
 abbrev pub placeOf : ℕ → ℕ → ℕ
 placeOf day hour = pick (leb 1 day && ltb hour hoursOfDay) (hoursTo (λ _. hoursOfDay) (day - 1) + hour) monthPlaces
 
+-- two fees, by which is meant
+abbrev pub feesOf : ℤ → ℤ → Fee → ℤ
+feesOf b e basic = b
+feesOf b e excess = e
+
 -- the board of a head and two runs
 abbrev pub boardIn : Head → List Bool → List ℤ → Board Fee Bool ℤ
-boardIn head marks amounts = record { closed = head .closed; fee = λ _. head .fee .0; marks = marks; amounts = amounts }
+boardIn head marks amounts = record { closed = head .closed; fee = feesOf (head .basic .0) (head .excess .0); marks = marks; amounts = amounts }
 
 -- no fee, open
 abbrev pub freshHead : ℕ → Head
-freshHead days = record { days = days; closed = false; fee = dollars (pos 0) }
+freshHead days = record { days = days; closed = false; basic = dollars (pos 0); excess = dollars (pos 0) }
 
 -- a month that opens: 6; a refusal has the head of no days
 unfoldable pub openedHead : ℕ → Headed
 openedHead days = record { refusal = unless (isDays days) notInMonth 0; head = pick (isDays days) (freshHead days) (freshHead 0) }
 
--- what a head shows of refusal 22: its days and its fee
+-- what a head shows of refusal 22: its days and its fees
 abbrev pub headFits : Head → Bool
 headFits head = feesFit (monthRules (head .days)) (boardIn head [] [])
 
@@ -43,4 +49,10 @@ unfoldable pub headedOf : Head → Call Fee Item → Headed
 headedOf head c =
     let b = boardIn head [] [] in
     let n = kept (headRefusal head c) (nextOn (monthRules (head .days)) b c) b in
-    record { refusal = headRefusal head c; head = record { days = head .days; closed = n .closed; fee = dollars (n .fee tt) } }
+    record { refusal = headRefusal head c; head = record { days = head .days; closed = n .closed; basic = dollars (n .fee basic); excess = dollars (n .fee excess) } }
+
+-- a fee z is set, and the two fees are then b and e: its number, and the head with them
+unfoldable pub withFees : Head → ℤ → Dollars → Dollars → Headed
+withFees head z b e =
+    let k = headRefusal head (Call.lossFee basic z) in
+    record { refusal = k; head = kept k (record { days = head .days; closed = head .closed; basic = b; excess = e }) head }

@@ -13,13 +13,19 @@ use Rattle.history.specs.Rules.{Rules}
 abbrev pub amountRefusal : ℤ → ℕ
 amountRefusal amount = unless (isAmount amount) badMoney 0
 
--- "loss fee outside 0 to 10^11"
+-- "loss fee outside 0 to 10^11"; document 02, #101: "each fee 0 to 10^11"
 abbrev pub lossFeeRefusal : ℤ → ℕ
 lossFeeRefusal fee = unless (isLossFee fee) badMoney 0
 
--- which loss fee: there is one
-abbrev pub Fee : Type 0
-Fee = Unit {0}
+-- which of the two loss fees (document 02, #101): the basic one, or the one for the excess
+pub data Fee : Type 0 where
+  basic excess : Fee
+
+abbrev pub sameFee : Fee → Fee → Bool
+sameFee basic basic = true
+sameFee basic excess = false
+sameFee excess basic = false
+sameFee excess excess = true
 
 -- what stands at an hour: the mark that it is filled, and an amount
 abbrev pub Item : Type 0
@@ -44,8 +50,8 @@ monthRules days =
       enter = λ item. (true, item .1);
       fits = λ item. eqb (amountRefusal (item .1)) 0;
       worth = λ item. item .1;
-      fees = tt ∷ [];
-      sameFee = λ _ _. true;
+      fees = basic ∷ excess ∷ [];
+      sameFee = sameFee;
       checkFee = λ _. lossFeeRefusal;
       parts = 1;
       checkPart = λ _. 0;

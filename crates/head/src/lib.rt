@@ -3,8 +3,8 @@
 ghost use mathlib.Core.Path.{_≡_};
 ghost use Rattle.units.specs.Limits.{isDays};
 ghost use Rattle.history.specs.Rules.{Call, placesOf};
-ghost use Rattle.head.specs.Rules.{lossFeeRefusal, monthRules};
-ghost use Rattle.head.specs.Inner.{placeOf, freshHead, openedHead, headFits, headedOf};
+ghost use Rattle.head.specs.Rules.{Fee, lossFeeRefusal, monthRules};
+ghost use Rattle.head.specs.Inner.{placeOf, freshHead, openedHead, headFits, headedOf, withFees};
 use units::Dollars;
 use units::limits;
 use units::refusals;
@@ -13,7 +13,8 @@ use units::refusals;
 pub struct Head {
     pub days: u8,
     pub closed: bool,
-    pub fee: Dollars,
+    pub basic: Dollars,
+    pub excess: Dollars,
 }
 
 // What a call on the head answers: its refusal, and the head that it hands back.
@@ -57,39 +58,29 @@ pub fn open(days: u8) -> Headed
     }
 }
 
-// What a head shows of refusal 22: its days and its fee.
+// What a head shows of refusal 22: its days and its fees.
 pub fn fits(head: Head) -> bool
     ensures { λ r. ⌜ r ≡ headFits head ⌝ }
 {
-    let fee = head.fee;
-    is_days(head.days) & (loss_fee_refusal(fee) == 0)
+    let basic = head.basic;
+    let excess = head.excess;
+    is_days(head.days) & (loss_fee_refusal(basic) == 0) & (loss_fee_refusal(excess) == 0)
 }
 
-// Sets the loss fee, which replaces the former.
-pub fn loss_fee(head: Head, amount: Dollars) -> Headed
-    ensures { λ r. ⌜ r ≡ headedOf head (Call.lossFee tt (amount .0)) ⌝ }
+// Sets the basic fee, which replaces the former; the excess fee stays.
+pub fn set_basic_fee(head: Head, amount: Dollars) -> Headed
+    ensures { λ r. ⌜ r ≡ headedOf head (Call.lossFee Fee.basic (amount .0)) ⌝ }
 {
-    let open = whole::unless(
-        !head.closed,
-        refusals::MONTH_CLOSED,
-        loss_fee_refusal(amount),
-    );
-    let k = whole::unless(fits(head), refusals::NOT_REACHABLE, open);
-    if k == 0 {
-        let next = Head {
-            days: head.days,
-            closed: head.closed,
-            fee: amount,
-        };
-        return Headed {
-            refusal: k,
-            head: next,
-        };
-    }
-    Headed {
-        refusal: k,
-        head: head,
-    }
+    let excess = head.excess;
+    with_fees(head, amount, amount, excess)
+}
+
+// Sets the excess fee, which replaces the former; the basic fee stays.
+pub fn set_excess_fee(head: Head, amount: Dollars) -> Headed
+    ensures { λ r. ⌜ r ≡ headedOf head (Call.lossFee Fee.excess (amount .0)) ⌝ }
+{
+    let basic = head.basic;
+    with_fees(head, amount, basic, amount)
 }
 
 // Closes the month.
@@ -99,11 +90,13 @@ pub fn close(head: Head) -> Headed
     let open = whole::unless(!head.closed, refusals::MONTH_CLOSED, 0);
     let k = whole::unless(fits(head), refusals::NOT_REACHABLE, open);
     if k == 0 {
-        let fee = head.fee;
+        let basic = head.basic;
+        let excess = head.excess;
         let next = Head {
             days: head.days,
             closed: true,
-            fee: fee,
+            basic: basic,
+            excess: excess,
         };
         return Headed {
             refusal: k,
@@ -128,7 +121,32 @@ fn fresh_head(days: u8) -> Head
     Head {
         days: days,
         closed: false,
-        fee: Dollars(0),
+        basic: Dollars(0),
+        excess: Dollars(0),
+    }
+}
+
+// A fee is set, and these are then the two: 22, 9, 3 for the one that is set.
+fn with_fees(head: Head, set: Dollars, basic: Dollars, excess: Dollars) -> Headed
+    ensures { λ r. ⌜ r ≡ withFees head (set .0) basic excess ⌝ }
+{
+    let open = whole::unless(!head.closed, refusals::MONTH_CLOSED, loss_fee_refusal(set));
+    let k = whole::unless(fits(head), refusals::NOT_REACHABLE, open);
+    if k == 0 {
+        let next = Head {
+            days: head.days,
+            closed: head.closed,
+            basic: basic,
+            excess: excess,
+        };
+        return Headed {
+            refusal: k,
+            head: next,
+        };
+    }
+    Headed {
+        refusal: k,
+        head: head,
     }
 }
 

@@ -83,7 +83,7 @@ pub record Held {F M B : Type 0} (R : Rules F M B) (b : Board F M B) : Type 0 wh
   pub amounts : length (b .amounts) ≡ R .places
 
 -- fees that fit are those of a month that opens
-fit-opens : {F M B : Type 0} (R : Rules F M B) (b : Board F M B) → feesFit R b ≡ true → R .opens ≡ true
+pub fit-opens : {F M B : Type 0} (R : Rules F M B) (b : Board F M B) → feesFit R b ≡ true → R .opens ≡ true
 fit-opens R b e = every-at (λ f. eqb (R .checkFee f (b .fee f)) 0) (λ _ _. false) (λ f g e. clash e) (R .fees) (R .opens) e .0
 
 -- a month that is in form is one that opens

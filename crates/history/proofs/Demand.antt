@@ -29,6 +29,7 @@ pub record Lawful {P F M B S : Type 0} (L : Ledger P F M B S) : Type 1 where
   pub hour : (s : S) (d x : ℕ) (r : ℕ × ℤ) → L .Hour s d x r → let R = L .rules (plan s) in r ≡ orReachable R (pos 0) (board s) (hourOn R (board s) d x)
   pub day : (s : S) (d : ℕ) (r : ℕ × ℤ) → L .Day s d r → let R = L .rules (plan s) in r ≡ orReachable R (pos 0) (board s) (dayOn R (board s) d)
   pub part : (s : S) (q : ℕ) (r : ℕ × ℤ) → L .Part s q r → let R = L .rules (plan s) in r ≡ orReachable R (pos 0) (board s) (partOn R (board s) q)
+  pub fee : (s : S) (f : F) (r : ℕ × ℤ) → L .Fee s f r → r ≡ orReachable (L .rules (plan s)) (pos 0) (board s) (0, board s .fee f)
   pub total : (s : S) (r : ℕ × ℤ) → L .Total s r → let R = L .rules (plan s) in r ≡ orReachable R (pos 0) (board s) (0, totalOn R (board s))
   pub standing : (s : S) (r : ℕ × ℕ) → L .Standing s r → let R = L .rules (plan s) in r ≡ orReachable R 0 (board s) (0, standingOn R (board s))
 
@@ -85,6 +86,7 @@ module _ {P F M B S : Type 0} (L : Ledger P F M B S) (laws : Lawful L) where
         hour = λ d x r a. laws .hour s d x r a ∙ plain (pos 0) (λ R. hourOn R b d x) ∙ hour-is R (c .sound) h b (c .told) d x;
         day = λ d r a. laws .day s d r a ∙ plain (pos 0) (λ R. dayOn R b d) ∙ day-is R (c .sound) h b (c .told) d;
         part = λ q r a. laws .part s q r a ∙ plain (pos 0) (λ R. partOn R b q) ∙ part-is R (c .sound) h b (c .told) q;
+        fee = λ f r a. laws .fee s f r a ∙ plain (pos 0) (λ _. (0, b .fee f)) ∙ ap (λ z. (0, z)) (c .told .fee-is f);
         standing = λ r a. laws .standing s r a ∙ plain 0 (λ R. (0, standingOn R b)) ∙ ap (λ n. (0, n)) (standing-is R (c .sound) h b (c .told));
         parts = parts-are R (c .sound) h b (c .told);
       }
@@ -116,6 +118,7 @@ module _ {P F M B S : Type 0} (L : Ledger P F M B S) (laws : Lawful L) where
       record {
         hour = λ d x i r a. d3 .hour d x r a ∙ rw i;
         day = λ d i r a. d3 .day d r a ∙ rw i (ap (λ z. (0, z)) (sum-none (R .hoursOf d) _ (λ _ _. refl)));
+        fee = λ f r a. d3 .fee f r a;
         total = λ r a. d3 .total r a ∙ ap (λ z. (0, z)) (ap (λ e. foldl (λ z _. z -ℤ pos 0) e (R .fees)) nothing ∙ no-fees (R .fees));
         standing = λ r a. d3 .standing r a ∙ ap (λ n. (0, n)) (fold-empty 0 _+_ refl (R .days) _ (λ k _. fold-empty 0 _+_ refl (R .hoursOf (suc k)) _ (λ _ _. refl)));
       }

@@ -24,6 +24,7 @@ module _ {P F M B : Type 0} (rules : P → Rules F M B) where
         Hour = λ s d x r. r ≡ orReachable (rules (s .plan)) (pos 0) (s .board) (hourOn (rules (s .plan)) (s .board) d x);
         Day = λ s d r. r ≡ orReachable (rules (s .plan)) (pos 0) (s .board) (dayOn (rules (s .plan)) (s .board) d);
         Part = λ s q r. r ≡ orReachable (rules (s .plan)) (pos 0) (s .board) (partOn (rules (s .plan)) (s .board) q);
+        Fee = λ s f r. r ≡ orReachable (rules (s .plan)) (pos 0) (s .board) (0, s .board .fee f);
         Total = λ s r. r ≡ orReachable (rules (s .plan)) (pos 0) (s .board) (0, totalOn (rules (s .plan)) (s .board));
         Standing = λ s r. r ≡ orReachable (rules (s .plan)) 0 (s .board) (0, standingOn (rules (s .plan)) (s .board));
       }
@@ -39,6 +40,7 @@ module _ {P F M B : Type 0} (rules : P → Rules F M B) where
         hour = λ s d x r e. e;
         day = λ s d r e. e;
         part = λ s q r e. e;
+        fee = λ s f r e. e;
         total = λ s r e. e;
         standing = λ s r e. e;
       }

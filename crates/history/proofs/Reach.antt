@@ -325,6 +325,7 @@ exact-22 {P} {F} {M} {B} {S} L laws able smalls s held =
       hour = λ d x r a. told-22 L laws able s held (pos 0) r _ (laws .hour s d x r a) (hour-small R small b d x);
       day = λ d r a. told-22 L laws able s held (pos 0) r _ (laws .day s d r a) (day-small R small b d);
       part = λ q r a. told-22 L laws able s held (pos 0) r _ (laws .part s q r a) (part-small R small b q);
+      fee = λ f r a. told-22 L laws able s held (pos 0) r _ (laws .fee s f r a) (omega arith);
       total = λ r a. told-22 L laws able s held (pos 0) r _ (laws .total s r a) (omega arith);
       standing = λ r a. told-22 L laws able s held 0 r _ (laws .standing s r a) (omega arith);
     }

@@ -10,7 +10,7 @@ use lib.IntN.{ℤ, pos}
 use Rattle.whole.specs.Folds.{sumTo}
 use Rattle.units.specs.Refusals.{placeEmpty, notReachable}
 use Rattle.history.specs.Rules.{Call, Rules, inside}
-use Rattle.history.specs.History.{Recorded, Ruled, hourIs, dayIs, partIs, earnedIs, totalIs, standingIs}
+use Rattle.history.specs.History.{Recorded, Ruled, lastFee, hourIs, dayIs, partIs, earnedIs, totalIs, standingIs}
 
 -- the contracts of a ledger of items M × B, with the fees F, whose months open by plans P and whose states are S; a read-out's answer is its refusal number
 -- and its figure
@@ -24,6 +24,7 @@ pub record Ledger (P F M B S : Type 0) : Type 1 where
   pub Hour : S → ℕ → ℕ → ℕ × ℤ → Type 0
   pub Day : S → ℕ → ℕ × ℤ → Type 0
   pub Part : S → ℕ → ℕ × ℤ → Type 0
+  pub Fee : S → F → ℕ × ℤ → Type 0
   pub Total : S → ℕ × ℤ → Type 0
   pub Standing : S → ℕ × ℕ → Type 0
 
@@ -40,6 +41,8 @@ module _ {P F M B S : Type 0} (L : Ledger P F M B S) (p : P) where
     -- "The month total then equals the sum, over the hours, of the amount last accepted for that hour and not withdrawn since, less the last
     -- accepted loss fee, or zero if there was none." #101: "Demand 3 then takes away both, each zero if never set."
     pub total : (r : ℕ × ℤ) → L .Total s r → r ≡ (0, totalIs (L .rules p) h)
+    -- #101: "each has its own last accepted value"
+    pub fee : (f : F) (r : ℕ × ℤ) → L .Fee s f r → r ≡ (0, lastFee (L .rules p) h f)
     -- "Each hour's read-out, each day's sum and the number of standing hours follow from the same history."
     pub hour : (d x : ℕ) (r : ℕ × ℤ) → L .Hour s d x r → r ≡ hourIs (L .rules p) h d x
     pub day : (d : ℕ) (r : ℕ × ℤ) → L .Day s d r → r ≡ dayIs (L .rules p) h d
@@ -52,6 +55,7 @@ module _ {P F M B S : Type 0} (L : Ledger P F M B S) (p : P) where
   pub record OpensEmpty (s : S) : Type 0 where
     pub hour : (d x : ℕ) → inside (L .rules p) d x ≡ true → (r : ℕ × ℤ) → L .Hour s d x r → r ≡ (placeEmpty, pos 0)
     pub day : (d : ℕ) → leb 1 d && leb d (L .rules p .days) ≡ true → (r : ℕ × ℤ) → L .Day s d r → r ≡ (0, pos 0)
+    pub fee : (f : F) (r : ℕ × ℤ) → L .Fee s f r → r ≡ (0, pos 0)
     pub total : (r : ℕ × ℤ) → L .Total s r → r ≡ (0, pos 0)
     pub standing : (r : ℕ × ℕ) → L .Standing s r → r ≡ (0, 0)
 
@@ -70,5 +74,6 @@ pub record Exact22 {P F M B S : Type 0} (L : Ledger P F M B S) (s : S) : Type 0 
   pub hour : (d x : ℕ) (r : ℕ × ℤ) → L .Hour s d x r → Just22 L s (r .0)
   pub day : (d : ℕ) (r : ℕ × ℤ) → L .Day s d r → Just22 L s (r .0)
   pub part : (q : ℕ) (r : ℕ × ℤ) → L .Part s q r → Just22 L s (r .0)
+  pub fee : (f : F) (r : ℕ × ℤ) → L .Fee s f r → Just22 L s (r .0)
   pub total : (r : ℕ × ℤ) → L .Total s r → Just22 L s (r .0)
   pub standing : (r : ℕ × ℕ) → L .Standing s r → Just22 L s (r .0)

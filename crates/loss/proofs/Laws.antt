@@ -1,4 +1,4 @@
--- The loss fee: how large each part is, that a granted answer is the paper's formula, and that the ledger takes every one. By the
+-- The loss fee: how large each part is, that a granted answer is the paper's formula, and that the ledger takes each part. By the
 -- ranges that a granted call has tested. Assumes nothing.
 use Prim.Native.Nat.{ℕ, _+_, _*_, _/_, _≤_}
 use mathlib.Core.Path.{_≡_, refl}
@@ -17,7 +17,7 @@ use Rattle.units.specs.Refusals.{badMoney, badEnergy}
 use Rattle.units.specs.Limits.{isEnergy, isVoltage, isCost, isLossFee, mostEnergy, mostCost, mostLossFee}
 use Rattle.loss.specs.Loss.{atLeastZero, net, above, percent, basicFee, excessFee, lossRefusal, added, lossAnswer}
 use Rattle.loss.specs.Accepted.{LossFits}
-use Rattle.whole.proofs.Bounds.{from-zero, product-between, sum-between, nearest-between}
+use Rattle.whole.proofs.Bounds.{from-zero, product-between, nearest-between}
 
 pub loss-fits : (charged discharged voltage cost : ℤ) → lossRefusal charged discharged voltage cost ≡ 0 → LossFits charged discharged voltage cost
 unfolding lossRefusal
@@ -104,16 +104,20 @@ module _ {charged discharged voltage cost : ℤ} (f : LossFits charged discharge
   unfolding lossAnswer
   loss-granted = kept-new (added 0 (basicFee charged discharged voltage cost) (excessFee charged discharged voltage cost)) (added (lossRefusal charged discharged voltage cost) (pos 0) (pos 0)) (loss-passes f)
 
-pub loss-between : (charged discharged voltage cost : ℤ) → Between (pos 0) (pos (mostBasic + mostExcess)) (lossAnswer charged discharged voltage cost .total .0)
+-- the ledger's range of a loss fee holds each part, whatever was handed in (document 02, #101)
+pub loss-posts : (charged discharged voltage cost : ℤ) →
+    let a = lossAnswer charged discharged voltage cost in
+    (isLossFee (a .basic .0) ≡ true) × (isLossFee (a .excess .0) ≡ true)
 unfolding lossAnswer added
-loss-between charged discharged voltage cost = by (eqb (lossRefusal charged discharged voltage cost) 0) (eqb-true _ 0)
+loss-posts charged discharged voltage cost = by (eqb (lossRefusal charged discharged voltage cost) 0) (eqb-true _ 0)
   where
-    by : (b : Bool) → (b ≡ true → lossRefusal charged discharged voltage cost ≡ 0)
-        → Between (pos 0) (pos (mostBasic + mostExcess)) (pick b (added 0 (basicFee charged discharged voltage cost) (excessFee charged discharged voltage cost)) (added (lossRefusal charged discharged voltage cost) (pos 0) (pos 0)) .total .0)
-    by true e = let f = loss-fits charged discharged voltage cost (e refl) in sum-between _ _ (basic-between f) (excess-between f)
-    by false e = omega arith
+    in-range : (k : ℕ) (z : ℤ) → k ≤ mostLossFee → Between (pos 0) (pos k) z → isLossFee z ≡ true
+    in-range k z l b = from-zero mostLossFee z (record { least = b .least; most = omega (arith, b .most) })
 
--- the ledger's range of a loss fee holds every one
-pub loss-posts : (charged discharged voltage cost : ℤ) → isLossFee (lossAnswer charged discharged voltage cost .total .0) ≡ true
-loss-posts charged discharged voltage cost =
-    let b = loss-between charged discharged voltage cost in from-zero mostLossFee _ (record { least = b .least; most = omega (arith, b .most) })
+    by : (t : Bool) → (t ≡ true → lossRefusal charged discharged voltage cost ≡ 0) →
+        let a = pick t (added 0 (basicFee charged discharged voltage cost) (excessFee charged discharged voltage cost)) (added (lossRefusal charged discharged voltage cost) (pos 0) (pos 0)) in
+        (isLossFee (a .basic .0) ≡ true) × (isLossFee (a .excess .0) ≡ true)
+    by true e =
+        let f = loss-fits charged discharged voltage cost (e refl) in
+        (in-range mostBasic (basicFee charged discharged voltage cost) (omega arith) (basic-between f), in-range mostExcess (excessFee charged discharged voltage cost) (omega arith) (excess-between f))
+    by false e = (in-range 0 (pos 0) (omega arith) (omega arith), in-range 0 (pos 0) (omega arith) (omega arith))

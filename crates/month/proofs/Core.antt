@@ -12,7 +12,7 @@ use lib.ListN.{length, replicate}
 use Rattle.whole.specs.Choice.{pick}
 use Rattle.whole.proofs.Choice.{by-test, kept-old}
 use Rattle.history.specs.Rules.{Call, Deed}
-use Rattle.history.specs.Board.{wellFormed, handed, refusalOf, nextOf}
+use Rattle.history.specs.Board.{Board, wellFormed, handed, refusalOf, nextOf}
 use Rattle.history.specs.Inner.{runsFit, ruledIn, handedIn}
 use Rattle.history.proofs.Board.{Good, well-good, well-opens, good-runs, good-refusal, good-left, CameAt}
 use Rattle.units.specs.Limits.{isDays, monthPlaces}
@@ -23,11 +23,15 @@ use Rattle.head.specs.declared.Head.{Head}
 use Rattle.head.specs.declared.Headed.{Headed}
 use Rattle.head.proofs.HourPlaces.{place-for}
 use Rattle.head.proofs.Sound.{month-sound}
-use Rattle.head.proofs.Heads.{Heads}
+use Rattle.head.proofs.Heads.{Heads, fees-all}
 use Rattle.board.specs.Board.{placeRuled, placeHanded}
 use Rattle.month.specs.Month.{rulesOf, boardOf, monthOf, freshMonth, openOf, monthAnswer}
-use Rattle.month.specs.Inner.{monthHead, bookedOf}
+use Rattle.month.specs.Inner.{monthHead, bookedOf, headBooked}
 use Rattle.month.specs.declared.Month.{Month}
+
+-- a month has all of its board
+pub board-all : (days : ℕ) (b : Board Fee Bool ℤ) → boardOf (monthOf days b) ≡ b
+board-all days b i = record { closed = b .closed; fee = fees-all (b .fee) i; marks = b .marks; amounts = b .amounts }
 
 -- a well-formed month opens, and is a board in form
 pub well-days : (m : Month) → wellFormed (rulesOf m) (boardOf m) ≡ true → isDays (m .days) ≡ true
@@ -58,13 +62,19 @@ answer-in m c k head gs ys f number board days =
     let left = board ∙ good-left (rulesOf m) sound (boardOf m) (f .good) c in
     rw (f .well) (λ i. record { refusal = ruled i; month = monthOf (days i) (left i) })
 
--- a call on the head: the head is the month's, and its runs are the ledger's
-pub answer-head : (m : Month) (c : Call Fee Item) → Formed m → (runsFit (rulesOf m) (boardOf m) ≡ true → Heads (monthHead m) (m .marks) (m .amounts) c)
-    → (headed : Headed) (head : Head) → headed ≡ headedOf head c → head ≡ monthHead m → bookedOf (headed .refusal) (headed .head) (m .marks) (m .amounts) ≡ monthAnswer m c
-answer-head m c f heads headed head n h =
-    let is = heads (good-runs (rulesOf m) (month-sound (m .days) (well-days m (f .well))) (boardOf m) (f .good)) in
-    ap (λ (x : Headed). bookedOf (x .refusal) (x .head) (m .marks) (m .amounts)) (n ∙ ap (λ (x : Head). headedOf x c) h)
-    ∙ answer-in m c _ _ _ _ f (is .number) (is .board) (is .days)
+-- a call on the head: the head is the month's, and its runs are the ledger's; 22 first
+pub answer-head : (m : Month) (c : Call Fee Item) → length (m .marks) ≡ monthPlaces → length (m .amounts) ≡ monthPlaces
+    → (runsFit (rulesOf m) (boardOf m) ≡ true → Heads (monthHead m) (m .marks) (m .amounts) c)
+    → (headed : Headed) (head : Head) → headed ≡ headedOf head c → head ≡ monthHead m → headBooked m headed ≡ monthAnswer m c
+unfolding headBooked
+answer-head m c lf lx heads headed head n h =
+    ap (headBooked m) (n ∙ ap (λ (x : Head). headedOf x c) h)
+    ∙ by-test (wellFormed (rulesOf m) (boardOf m))
+    (λ (w : wellFormed (rulesOf m) (boardOf m) ≡ true).
+    let f = formed m refl (ap not w) lf lx in
+    let is = heads (good-runs (rulesOf m) (month-sound (m .days) (well-days m w)) (boardOf m) (f .good)) in
+    rw w (answer-in m c _ _ _ _ f (is .number) (is .board) (is .days)))
+    (λ (w : wellFormed (rulesOf m) (boardOf m) ≡ false). rw w (answer-22 m c refl (ap not w)))
 
 -- a call at a place: the head is the month's, and the place that of the call's day and hour
 pub answer-at : (m : Month) (c : Call Fee Item) (deed : Deed Item) (d x : ℕ) → CameAt (rulesOf m) (boardOf m) d x (placeOf d x) (place-for (m .days) d x) c deed

@@ -12,7 +12,7 @@ use Rattle.units.specs.Units.{dollars}
 use Rattle.head.specs.Rules.{Fee, Item}
 use Rattle.board.specs.Board.{toldOf}
 use Rattle.board.specs.declared.Told.{Told}
-use Rattle.month.specs.Month.{rulesOf, boardOf, readOut, freshMonth, openOf, monthAnswer, hourTold, dayTold, totalTold, standingTold}
+use Rattle.month.specs.Month.{rulesOf, boardOf, readOut, freshMonth, openOf, monthAnswer, hourTold, dayTold, feeTold, totalTold, standingTold}
 use Rattle.month.specs.declared.Month.{Month}
 use Rattle.month.specs.declared.Booked.{Booked}
 use Rattle.month.specs.declared.Counted.{Counted}
@@ -25,14 +25,20 @@ use Rattle.month.proofs.Month.replace.Reads as replace-reads
 use Rattle.month.proofs.Month.replace.Kinds as replace-kinds
 use Rattle.month.proofs.Month.withdraw.Reads as withdraw-reads
 use Rattle.month.proofs.Month.withdraw.Kinds as withdraw-kinds
-use Rattle.month.proofs.Month.loss_fee.Reads as loss-fee-reads
-use Rattle.month.proofs.Month.loss_fee.Kinds as loss-fee-kinds
+use Rattle.month.proofs.Month.set_basic_fee.Reads as set-basic-fee-reads
+use Rattle.month.proofs.Month.set_basic_fee.Kinds as set-basic-fee-kinds
+use Rattle.month.proofs.Month.set_excess_fee.Reads as set-excess-fee-reads
+use Rattle.month.proofs.Month.set_excess_fee.Kinds as set-excess-fee-kinds
 use Rattle.month.proofs.Month.close.Reads as close-reads
 use Rattle.month.proofs.Month.close.Kinds as close-kinds
 use Rattle.month.proofs.Month.hour.Reads as hour-reads
 use Rattle.month.proofs.Month.hour.Kinds as hour-kinds
 use Rattle.month.proofs.Month.day.Reads as day-reads
 use Rattle.month.proofs.Month.day.Kinds as day-kinds
+use Rattle.month.proofs.Month.basic_fee.Reads as basic-fee-reads
+use Rattle.month.proofs.Month.basic_fee.Kinds as basic-fee-kinds
+use Rattle.month.proofs.Month.excess_fee.Reads as excess-fee-reads
+use Rattle.month.proofs.Month.excess_fee.Kinds as excess-fee-kinds
 use Rattle.month.proofs.Month.total.Reads as total-reads
 use Rattle.month.proofs.Month.total.Kinds as total-kinds
 use Rattle.month.proofs.Month.standing.Reads as standing-reads
@@ -64,8 +70,11 @@ replace-refused-keeps κs a x s p f = same-ledger (a .0) _ x p f
 withdraw-refused-keeps : RefusedBare 0 withdraw-kinds.ps withdraw-kinds.r (λ κs x. x .refusal) (λ κs a k. record { refusal = k; month = a .0 }) withdraw-reads.Post
 withdraw-refused-keeps κs a x s p f = same-ledger (a .0) _ x p f
 
-loss-fee-refused-keeps : RefusedBare 0 loss-fee-kinds.ps loss-fee-kinds.r (λ κs x. x .refusal) (λ κs a k. record { refusal = k; month = a .0 }) loss-fee-reads.Post
-loss-fee-refused-keeps κs a x s p f = same-ledger (a .0) _ x p f
+set-basic-fee-refused-keeps : RefusedBare 0 set-basic-fee-kinds.ps set-basic-fee-kinds.r (λ κs x. x .refusal) (λ κs a k. record { refusal = k; month = a .0 }) set-basic-fee-reads.Post
+set-basic-fee-refused-keeps κs a x s p f = same-ledger (a .0) _ x p f
+
+set-excess-fee-refused-keeps : RefusedBare 0 set-excess-fee-kinds.ps set-excess-fee-kinds.r (λ κs x. x .refusal) (λ κs a k. record { refusal = k; month = a .0 }) set-excess-fee-reads.Post
+set-excess-fee-refused-keeps κs a x s p f = same-ledger (a .0) _ x p f
 
 close-refused-keeps : RefusedBare 0 close-kinds.ps close-kinds.r (λ κs x. x .refusal) (λ κs a k. record { refusal = k; month = a .0 }) close-reads.Post
 close-refused-keeps κs a x s p f = same-ledger (a .0) _ x p f
@@ -91,6 +100,14 @@ hour-refused-keeps κs a x s p f = no-figure (a .0) _ x (λ e. kept-old _ (pos 0
 day-refused-keeps : RefusedBare 0 day-kinds.ps day-kinds.r (λ κs x. x .refusal) (λ κs a k. record { refusal = k; amount = dollars (pos 0) }) day-reads.Post
 unfolding dayTold dayOn
 day-refused-keeps κs a x s p f = no-figure (a .0) _ x (λ e. kept-old _ (pos 0) e) p f
+
+basic-fee-refused-keeps : RefusedBare 0 basic-fee-kinds.ps basic-fee-kinds.r (λ κs x. x .refusal) (λ κs a k. record { refusal = k; amount = dollars (pos 0) }) basic-fee-reads.Post
+unfolding feeTold
+basic-fee-refused-keeps κs a x s p f = no-figure (a .0) _ x (λ e. absurd (e refl)) p f
+
+excess-fee-refused-keeps : RefusedBare 0 excess-fee-kinds.ps excess-fee-kinds.r (λ κs x. x .refusal) (λ κs a k. record { refusal = k; amount = dollars (pos 0) }) excess-fee-reads.Post
+unfolding feeTold
+excess-fee-refused-keeps κs a x s p f = no-figure (a .0) _ x (λ e. absurd (e refl)) p f
 
 total-refused-keeps : RefusedBare 0 total-kinds.ps total-kinds.r (λ κs x. x .refusal) (λ κs a k. record { refusal = k; amount = dollars (pos 0) }) total-reads.Post
 unfolding totalTold

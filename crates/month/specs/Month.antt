@@ -9,7 +9,8 @@ use Rattle.units.specs.Refusals.{notInMonth}
 use Rattle.units.specs.Units.{dollars}
 use Rattle.history.specs.Rules.{Call, Rules}
 use Rattle.history.specs.Board.{Board, refusalOf, nextOf, orReachable, hourOn, dayOn, totalOn, standingOn}
-use Rattle.head.specs.Rules.{Fee, Item, monthRules}
+use Rattle.head.specs.Rules.{Fee, basic, excess, Item, monthRules}
+use Rattle.head.specs.Inner.{feesOf}
 use Rattle.board.specs.Board.{toldOf}
 use Rattle.board.specs.declared.Told.{Told}
 use Rattle.month.specs.declared.Month.{Month}
@@ -22,16 +23,16 @@ abbrev pub rulesOf : Month → Rules Fee Bool ℤ
 rulesOf m = monthRules (m .days)
 
 abbrev pub boardOf : Month → Board Fee Bool ℤ
-boardOf m = record { closed = m .closed; fee = λ _. m .fee .0; marks = m .marks; amounts = m .amounts }
+boardOf m = record { closed = m .closed; fee = feesOf (m .basic .0) (m .excess .0); marks = m .marks; amounts = m .amounts }
 
 abbrev pub monthOf : ℕ → Board Fee Bool ℤ → Month
-monthOf days b = record { days = days; closed = b .closed; fee = dollars (b .fee tt); marks = b .marks; amounts = b .amounts }
+monthOf days b = record { days = days; closed = b .closed; basic = dollars (b .fee basic); excess = dollars (b .fee excess); marks = b .marks; amounts = b .amounts }
 
 -- ---- the calls
 
 -- every place empty, no fee, open
 unfoldable pub freshMonth : ℕ → Month
-freshMonth days = record { days = days; closed = false; fee = dollars (pos 0); marks = replicate monthPlaces false; amounts = replicate monthPlaces (pos 0) }
+freshMonth days = record { days = days; closed = false; basic = dollars (pos 0); excess = dollars (pos 0); marks = replicate monthPlaces false; amounts = replicate monthPlaces (pos 0) }
 
 -- a refused open hands back the all-zero ledger
 unfoldable pub openOf : ℕ → Booked
@@ -53,6 +54,10 @@ hourTold m day hour = readOut m (hourOn (rulesOf m) (boardOf m) day hour)
 -- a day's sum: 22, 6
 unfoldable pub dayTold : Month → ℕ → Told
 dayTold m day = readOut m (dayOn (rulesOf m) (boardOf m) day)
+
+-- a loss fee as it was last set, 0 if it never was: 22
+unfoldable pub feeTold : Month → Fee → Told
+feeTold m f = readOut m (0, boardOf m .fee f)
 
 -- the month total: 22
 unfoldable pub totalTold : Month → Told

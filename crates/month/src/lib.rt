@@ -1,4 +1,4 @@
-// The month ledger: its hour places, a loss fee, and a mark that stops every change. It knows nothing of readings.
+// The month ledger: its hour places, two loss fees, and a mark that stops every change. It knows nothing of readings.
 //
 // The calls on a `Month` by value refuse with 22 a ledger that no run of calls hands back, and go through the calls in
 // place (crate board) or on the head (crate head).
@@ -14,12 +14,13 @@ ghost use Rattle.units.specs.Refusals.{notReachable};
 ghost use Rattle.units.specs.Units.{dollars};
 ghost use Rattle.history.specs.Rules.{Call};
 ghost use Rattle.history.specs.Board.{wellFormed};
-ghost use Rattle.head.specs.Rules.{amountItem};
+ghost use Rattle.head.specs.Rules.{Fee, amountItem};
 ghost use Rattle.board.specs.Board.{toldOf};
-ghost use Rattle.month.specs.Month.{rulesOf, boardOf, openOf, monthAnswer, hourTold, dayTold, totalTold, standingTold};
-ghost use Rattle.month.specs.Inner.{monthHead, bookedOf};
+ghost use Rattle.month.specs.Month.{rulesOf, boardOf, openOf, monthAnswer, readOut, hourTold, dayTold, feeTold, totalTold, standingTold};
+ghost use Rattle.month.specs.Inner.{monthHead, bookedOf, headBooked};
 use board::Told;
 use head::Head;
+use head::Headed;
 use units::Dollars;
 use units::limits;
 use units::refusals;
@@ -27,7 +28,8 @@ use units::refusals;
 pub struct Month {
     pub days: u8,
     pub closed: bool,
-    pub fee: Dollars,
+    pub basic: Dollars,
+    pub excess: Dollars,
     pub marks: [bool; limits::PLACES],
     pub amounts: [i64; limits::PLACES],
 }
@@ -112,32 +114,25 @@ impl Month {
         booked_of(k, head, marks, amounts)
     }
 
-    // Sets the loss fee, which replaces the former.
-    pub fn loss_fee(self, amount: Dollars) -> Booked
-        ensures { λ r. ⌜ r ≡ monthAnswer self (Call.lossFee tt (amount .0)) ⌝ }
+    // Sets the basic loss fee, which replaces the former; the excess fee stays.
+    pub fn set_basic_fee(self, amount: Dollars) -> Booked
+        ensures { λ r. ⌜ r ≡ monthAnswer self (Call.lossFee Fee.basic (amount .0)) ⌝ }
     {
-        if !self.well_formed() {
-            return self.unreachable();
-        }
-        let marks = self.marks;
-        let amounts = self.amounts;
-        let next = head::loss_fee(self.head(), amount);
-        let head = next.head;
-        booked_of(next.refusal, head, marks, amounts)
+        self.with_head(head::set_basic_fee(self.head(), amount))
+    }
+
+    // Sets the excess loss fee, which replaces the former; the basic fee stays.
+    pub fn set_excess_fee(self, amount: Dollars) -> Booked
+        ensures { λ r. ⌜ r ≡ monthAnswer self (Call.lossFee Fee.excess (amount .0)) ⌝ }
+    {
+        self.with_head(head::set_excess_fee(self.head(), amount))
     }
 
     // Stops every change.
     pub fn close(self) -> Booked
         ensures { λ r. ⌜ r ≡ monthAnswer self Call.close ⌝ }
     {
-        if !self.well_formed() {
-            return self.unreachable();
-        }
-        let marks = self.marks;
-        let amounts = self.amounts;
-        let shut = head::close(self.head());
-        let head = shut.head;
-        booked_of(shut.refusal, head, marks, amounts)
+        self.with_head(head::close(self.head()))
     }
 
     // One hour's amount.
@@ -169,7 +164,23 @@ impl Month {
         }
     }
 
-    // The month total: the amounts less the loss fee.
+    // The basic loss fee as it was last set.
+    pub fn basic_fee(self) -> Told
+        ensures { λ r. ⌜ r ≡ feeTold self Fee.basic ⌝ }
+    {
+        let fee = self.basic;
+        self.told(fee)
+    }
+
+    // The excess loss fee as it was last set.
+    pub fn excess_fee(self) -> Told
+        ensures { λ r. ⌜ r ≡ feeTold self Fee.excess ⌝ }
+    {
+        let fee = self.excess;
+        self.told(fee)
+    }
+
+    // The month total: the amounts less both loss fees.
     pub fn total(self) -> Told
         ensures { λ r. ⌜ r ≡ totalTold self ⌝ }
     {
@@ -205,11 +216,39 @@ impl Month {
     fn head(self) -> Head
         ensures { λ r. ⌜ r ≡ monthHead self ⌝ }
     {
-        let fee = self.fee;
+        let basic = self.basic;
+        let excess = self.excess;
         Head {
             days: self.days,
             closed: self.closed,
-            fee: fee,
+            basic: basic,
+            excess: excess,
+        }
+    }
+
+    // What a call on the head answers, with this month's places; 22 first.
+    fn with_head(self, headed: Headed) -> Booked
+        ensures { λ r. ⌜ r ≡ headBooked self headed ⌝ }
+    {
+        if !self.well_formed() {
+            return self.unreachable();
+        }
+        let marks = self.marks;
+        let amounts = self.amounts;
+        let head = headed.head;
+        booked_of(headed.refusal, head, marks, amounts)
+    }
+
+    // An amount that is told of this month; 22 first.
+    fn told(self, amount: Dollars) -> Told
+        ensures { λ r. ⌜ r ≡ readOut self (0, amount .0) ⌝ }
+    {
+        if !self.well_formed() {
+            return refused(refusals::NOT_REACHABLE);
+        }
+        Told {
+            refusal: 0,
+            amount: amount,
         }
     }
 
@@ -233,13 +272,15 @@ fn booked_of(
 ) -> Booked
     ensures { λ r. ⌜ r ≡ bookedOf k head marks amounts ⌝ }
 {
-    let fee = head.fee;
+    let basic = head.basic;
+    let excess = head.excess;
     Booked {
         refusal: k,
         month: Month {
             days: head.days,
             closed: head.closed,
-            fee: fee,
+            basic: basic,
+            excess: excess,
             marks: marks,
             amounts: amounts,
         },

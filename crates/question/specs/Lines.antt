@@ -4,9 +4,7 @@ use mathlib.Core.List.{List, [], _∷_, _++_}
 use lib.IntN.{ℤ}
 use Rattle.text.specs.Text.{decimalOf, signedText}
 use Rattle.words.specs.Replies.{Reply}
-
-abbrev pub endOfLine : List ℕ
-endOfLine = 10 ∷ []
+use Rattle.frame_lines.specs.Text.{endOfLine}
 
 -- numbers are separated by one space
 abbrev pub field : ℤ → List ℕ

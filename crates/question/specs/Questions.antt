@@ -21,7 +21,7 @@ use Rattle.series.specs.Series.{seriesReply}
 use Rattle.question.specs.Parts.{headOf, bandsIn}
 use Rattle.fault_lines.specs.Text.{faultText}
 use Rattle.question.specs.Lines.{lineText}
-use Rattle.question.specs.Frames.{frameText}
+use Rattle.frame_lines.specs.Text.{frameText}
 use Rattle.frames.specs.Frames.{frameAnswer}
 use Rattle.frames.specs.declared.Framed.{Framed}
 
@@ -32,7 +32,7 @@ hourPrints hour n places = hourReply hour (headOf n) (bandsIn n places) (drop (p
 abbrev pub seriesPrints : Series → List ℤ → Places → Reply
 seriesPrints asks n places = seriesReply asks (headOf n) (bandsIn n places) (drop (places .tail) n)
 
--- a frame; where it is an hour's, the hour's terms stand after its day and its hour
+-- a frame, or two; where it is an hour's, the hour's terms stand after its day and its hour
 abbrev pub framePrints : Framing → List ℤ → Places → Framed
 framePrints asks n places = frameAnswer asks (headOf n) (headOf (drop 2 n)) (bandsIn n places) (drop (places .tail) n)
 

@@ -1,12 +1,12 @@
-// The program `desk` between its reading and its printing: a question's word and numbers in, one line of text out.
+// The program `desk` between its reading and its printing: a question's word and numbers in, its lines of text out.
 ghost use Prim.Native.Nat.{_≤_};
 ghost use mathlib.Core.Path.{_≡_};
 ghost use lib.ListN.{length, drop};
 ghost use Rattle.text.specs.Text.{put};
 ghost use Rattle.words.specs.Inner.{unboxed};
 ghost use Rattle.rules.specs.Rules.{ruleReply};
+ghost use Rattle.frame_lines.specs.Text.{frameText};
 ghost use Rattle.question.specs.Lines.{lineText};
-ghost use Rattle.question.specs.Frames.{frameText};
 ghost use Rattle.question.specs.Inner.{room, answered, printed};
 ghost use Rattle.question.specs.Parts.{headOf};
 ghost use Rattle.question.specs.Questions.{hourPrints, seriesPrints, framePrints, answerText, toldLine, questionText, replyText};
@@ -185,5 +185,5 @@ fn put_framed(asks: Framing, numbers: &[i64], places: Places, out: &mut [u8]) ->
         parts::part(numbers, first.start, first.end),
         parts::rest(numbers, places.tail),
     );
-    lines::put_frame(framed, out)
+    frame_lines::put_frames(framed, out)
 }

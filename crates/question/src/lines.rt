@@ -9,9 +9,7 @@ ghost use Rattle.units.specs.Limits.{secondsOfQuarter};
 ghost use Rattle.text.specs.Text.{put};
 ghost use Rattle.words.specs.Replies.{reply};
 ghost use Rattle.question.specs.Lines.{field, fieldsText, lineText};
-ghost use Rattle.question.specs.Frames.{frameText};
 ghost use Rattle.question.specs.Inner.{room, mostFields};
-use frames::Framed;
 
 // A refusal's number and the fields; more than 900 of them have to be short.
 pub(crate) fn put_line(refusal: u8, fields: &[i64], out: &mut [u8]) -> usize
@@ -35,23 +33,6 @@ pub(crate) fn put_alone(refusal: u8, out: &mut [u8]) -> usize
 {
     let none = [0i64; 1];
     put_line(refusal, &none[..0], out)
-}
-
-// The 24 digits of an entry, or the refusal alone.
-pub(crate) fn put_frame(framed: Framed, out: &mut [u8]) -> usize
-    requires { ⌜ room ≤ length (now out) ⌝ }
-    ensures place { λ r. ⌜ r ≡ length (frameText framed) ⌝ }
-    ensures text { λ r. ⌜ now (out .exit) ≡ put (now (out .entry)) 0 (frameText framed) ⌝ }
-    ensures short { λ r. ⌜ r ≤ room ⌝ }
-{
-    let mut line = [b'\n'; 25];
-    let entry = framed.entry;
-    let writer = frame::write_frame(entry, &mut line[..24]);
-    let k = whole::or_else(framed.refusal, writer);
-    if k == 0 {
-        return text::put(out, 0, &line);
-    }
-    put_alone(k, out)
 }
 
 // Fields one after the other; more than 900 of them have to be short.

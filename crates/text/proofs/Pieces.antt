@@ -1,6 +1,6 @@
 -- A line that is put piece by piece from the start of a run: each piece after those before it. By the laws of places. Assumes nothing.
 use Prim.Native.Nat.{ℕ, _+_, _≤_}
-use mathlib.Core.Path.{_≡_, sym, _∙_}
+use mathlib.Core.Path.{_≡_, sym, ap₂, _∙_}
 use mathlib.Core.List.{List, _++_}
 use native.Mathlib.Nat.{zero-add}
 use native.Mathlib.Omega.{arith}
@@ -37,3 +37,6 @@ further out mid last a b s t h e p q =
 pub front-put : (out text : List ℕ) → take (length text) (put out 0 text) ≡ text
 unfolding put
 front-put out text = take-append-seam text _
+
+pub begun-front : (out text : List ℕ) {mid : List ℕ} {a : ℕ} → Begun out text mid a → take a mid ≡ text
+begun-front out text b = ap₂ take (b .0) (b .1) ∙ front-put out text

@@ -72,6 +72,12 @@ length-spelled (suc f) k n h = by-test (ltb n 10) (λ (t : ltb n 10 ≡ true). r
     longer zero h g m = let s : n < 10 = h in absurd (omega arith)
     longer (suc j) h g m = simp length-append (omega (arith, m j (tenth-below n (suc j) h)))
 
+-- no more than it may have
+pub length-most : (f n : ℕ) → length (spelled f n) ≤ f
+length-most zero n = omega arith
+length-most (suc f) n =
+    by-test (ltb n 10) (λ (t : ltb n 10 ≡ true). rw t (omega arith)) (λ (t : ltb n 10 ≡ false). rw t (simp length-append (omega (arith, length-most f (n / 10)))))
+
 pub length-decimal : (k n : ℕ) → n < 10 ^ suc k → length (decimalOf n) ≤ suc k
 unfolding decimalOf
 length-decimal k n h = length-spelled 20 k n h

@@ -1,6 +1,7 @@
 -- A frame that `dreg_frame` or `edreg_frame` prints posts the hour that was asked: the hour is accepted, its day and its place in the day are the numbers
--- that were asked for, and the line reads back as the post of its amount. By the frame's round trip. Assumes nothing.
-use Prim.Native.Nat.{_<_}
+-- that were asked for, and the line reads back as the post of its amount. The two frames that `loss_frames` prints set the fees of the loss that was asked. By the frame's round
+-- trip. Assumes nothing.
+use Prim.Native.Nat.{ℕ, _<_}
 use mathlib.Core.Path.{_≡_, refl, ap, _∙_}
 use mathlib.Core.Bool.{true, false, _&&_}
 use mathlib.Core.List.{List, _++_}
@@ -11,7 +12,8 @@ use mir.Val.{SFits}
 use Rattle.whole.specs.Whole.{inRange}
 use Rattle.whole.proofs.Choice.{by-test, and-both, passed, both-passed, kept-new}
 use Rattle.whole.proofs.Signed.{inside, within-fits}
-use Rattle.frame.specs.Kinds.{postKind}
+use Rattle.whole.proofs.Sums.{in-within-below}
+use Rattle.frame.specs.Kinds.{postKind, basicFeeKind, excessFeeKind}
 use Rattle.frame.specs.Frame.{inForm, readingOf, lineOf, writeRefusal}
 use Rattle.frame.specs.declared.Entry.{Entry}
 use Rattle.frame.specs.declared.Reading.the-variants.{Frame}
@@ -19,18 +21,19 @@ use Rattle.book.specs.Book as book
 use Rattle.book.specs.Book.{Book, callOf, frameBook, readingRefusal, bookIn}
 use Rattle.frame.proofs.RoundTrip.{read-written}
 use borrow.Author.Needs.{needs}
-use Rattle.units.specs.Limits.{secondsOfHour}
+use Rattle.units.specs.Limits.{secondsOfHour, mostLossFee, isLossFee}
 use Rattle.hour.specs.Hour.{refusedHour}
 use Rattle.hour.proofs.Laws.{hour-within}
 use Rattle.numbers.specs.Numbers.{number, isByte, byteOf}
 use Rattle.words.specs.declared.Hour as words
 use Rattle.numbers.specs.declared.Places.{Places}
 use Rattle.hours.specs.Hours.{Basis, settlement}
-use Rattle.frames.specs.Frames.{framedBy, hourPost}
+use Rattle.units.specs.declared.Dollars.{Dollars}
+use Rattle.loss.proofs.Laws.{loss-posts}
+use Rattle.frames.specs.Frames.{framedBy, hourPost, feeEntry, lossFrames}
 use Rattle.question.specs.Parts.{headOf}
-use Rattle.transcript.specs.Posts.{hourFramed, hourFrame, posting, Posts, Piped}
-use Rattle.question.specs.Lines.{endOfLine}
-use Rattle.question.specs.Frames.{framedRefusal, frameText}
+use Rattle.transcript.specs.Posts.{hourFramed, hourFrame, posting, Posts, Piped, lossAsked, basicSet, excessSet, SetsFees}
+use Rattle.frame_lines.specs.Text.{endOfLine, framedRefusal, frameText}
 
 -- a number that is a byte, as a byte
 byte-is : (z : ℤ) → isByte z ≡ true → pos (byteOf z) ≡ z
@@ -85,3 +88,34 @@ unfolding book.frameRefusal frameBook callOf
 books-the-hour asks n places book z =
     let p = posts asks n places z in
     record { posted = p; answered = ap (readingRefusal book) (p .reads); kept = ap (bookIn book) (p .reads) }
+
+-- ---- the loss fees
+
+-- an entry that sets a fee of the ledger's range reads back
+fee-reads : (kind : ℕ) (fee : Dollars) → kind < 256 → inForm (feeEntry kind fee) ≡ true → isLossFee (fee .0) ≡ true → readingOf (lineOf (feeEntry kind fee)) ≡ Frame (feeEntry kind fee)
+fee-reads kind fee k form fits =
+    read-written (feeEntry kind fee) (record { kind = k; day = omega arith; hour = omega arith; amount = within-fits w64 tt (in-within-below {k = mostLossFee} fits) }) form
+
+pub books-the-fees : (n : List ℤ) (book : Book) → lossAsked n .refusal ≡ 0 → SetsFees n book
+unfolding lossFrames headOf frameText writeRefusal book.frameRefusal frameBook callOf inForm
+books-the-fees n book z =
+    record {
+      text = ap frameText (kept-new _ _ z);
+      basic-reads = basic;
+      excess-reads = excess;
+      basic-fits = rw (fits .0);
+      excess-fits = rw (fits .1);
+      basic-answered = ap (readingRefusal book) basic;
+      excess-answered = ap (readingRefusal book) excess;
+      basic-kept = ap (bookIn book) basic;
+      excess-kept = ap (bookIn book) excess;
+    }
+  where
+    fits : (isLossFee (lossAsked n .basic .0) ≡ true) × (isLossFee (lossAsked n .excess .0) ≡ true)
+    fits = loss-posts (number n 0) (number n 1) (number n 2) (number n 3)
+
+    basic : readingOf (lineOf (basicSet n)) ≡ Frame (basicSet n)
+    basic = fee-reads basicFeeKind (lossAsked n .basic) (omega arith) refl (fits .0)
+
+    excess : readingOf (lineOf (excessSet n)) ≡ Frame (excessSet n)
+    excess = fee-reads excessFeeKind (lossAsked n .excess) (omega arith) refl (fits .1)

@@ -5,11 +5,11 @@ use mathlib.Core.Path.{_≡_}
 use mathlib.Core.Bool.{true}
 use native.Mathlib.Omega.{arith}
 use native.Mathlib.Nat.{mul-le-mul}
-use lib.IntN.{ℤ, pos, negsuc, _+ℤ_, _*ℤ_}
+use lib.IntN.{ℤ, pos, negsuc, _*ℤ_}
 use Rattle.whole.specs.Whole.{up, down, Within, Between, inRange, nearest, withSign, halfUp}
 use Rattle.whole.proofs.Choice.{both}
 use Rattle.whole.proofs.Rounding.{nearest-within}
-use Rattle.whole.proofs.Signed.{inside, leZ-holds, sum}
+use Rattle.whole.proofs.Signed.{inside, leZ-holds}
 
 pub to-within : {k : ℕ} {z : ℤ} → Between (pos 0) (pos k) z → Within k z
 to-within b = omega arith
@@ -27,9 +27,6 @@ product-between {a} {b} (pos m) (pos n) p q =
     record { least = omega arith; most = omega arith }
 product-between (pos m) (negsuc n) p q = absurd (omega (arith, q .least))
 product-between (negsuc m) y p q = absurd (omega (arith, p .least))
-
-pub sum-between : {a b : ℕ} (x y : ℤ) → Between (pos 0) (pos a) x → Between (pos 0) (pos b) y → Between (pos 0) (pos (a + b)) (x +ℤ y)
-sum-between x y p q = omega (arith, sum x y)
 
 pub nearest-between : (n : ℤ) (d k : ℕ) → 0 < d → Between (pos 0) (pos (k * d)) n → Between (pos 0) (pos k) (nearest n d)
 unfolding nearest withSign

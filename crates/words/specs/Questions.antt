@@ -11,7 +11,7 @@ use Rattle.words.specs.declared.Question.{Question}
 use Rattle.words.specs.declared.Rule.the-variants.{Kilowatts, Curve, Score, Rate, Bands, Factor, Fee, Quality, Energy, Loss}
 use Rattle.words.specs.declared.Hour.the-variants.{Dreg, Edreg}
 use Rattle.words.specs.declared.Series.the-variants.{Ramp, DregScores, EdregScores}
-use Rattle.words.specs.declared.Framing.the-variants.{DregFrame, EdregFrame, Frame}
+use Rattle.words.specs.declared.Framing.the-variants.{DregFrame, EdregFrame, Frame, LossFrames}
 use Rattle.words.specs.declared.Question.the-variants as asks
 use Rattle.words.specs.declared.Shape.{Shape}
 use Rattle.words.specs.declared.Row.{Row}
@@ -67,6 +67,7 @@ table =
     ∷ entry "dreg_frame" (asks.Frame DregFrame) (hourShape 5)
     ∷ entry "edreg_frame" (asks.Frame EdregFrame) (hourShape 12)
     ∷ entry "frame" (asks.Frame Frame) (singles 4)
+    ∷ entry "loss_frames" (asks.Frame LossFrames) (singles 4)
     ∷ []
 
 -- any other word

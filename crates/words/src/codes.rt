@@ -34,3 +34,5 @@ pub(crate) const DREG_FRAME: u64 = 160_708_925_392_293;
 pub(crate) const EDREG_FRAME: u64 = 5_790_208_459_605_413;
 
 pub(crate) const FRAME: u64 = 6_882_725;
+
+pub(crate) const LOSS_FRAMES: u64 = 14_060_137_230_677_171;

@@ -6,7 +6,7 @@ use units::limits;
 mod codes;
 pub mod faults;
 
-// What is asked: a rule or an hour, answered by a few fields; a run of them; a frame.
+// What is asked: a rule or an hour, answered by a few fields; a run of them; a frame or two.
 pub enum Question {
     Rule(Rule),
     Hour(Hour),
@@ -43,6 +43,7 @@ pub enum Framing {
     DregFrame,
     EdregFrame,
     Frame,
+    LossFrames,
 }
 
 // The shape of a question's numbers: so many single ones; up to four lists, each its count and then entries of so
@@ -91,6 +92,7 @@ pub fn question_of(code: u64) -> Row
         codes::DREG_FRAME => hourly(Question::Frame(Framing::DregFrame), 5),
         codes::EDREG_FRAME => hourly(Question::Frame(Framing::EdregFrame), 12),
         codes::FRAME => singles(Question::Frame(Framing::Frame), 4),
+        codes::LOSS_FRAMES => singles(Question::Frame(Framing::LossFrames), 4),
         _ => Row {
             fault: faults::NOT_QUESTION,
             question: Question::Unknown,

@@ -3,15 +3,17 @@ use Prim.Native.Nat.{_≤_, _<_}
 use mathlib.Core.Path.{_≡_, sym, subst, _∙_}
 use native.Mathlib.Omega.{arith}
 use mathlib.Core.Bool.{true, false}
+use mathlib.Core.List.{[]}
 use lib.Dec.{eqb, ltb}
 use lib.ListN.{length}
 use borrow.Author.Tests.{not-true, not-false, lt-ltb, le-ltb, eqb-true}
 use Rattle.whole.proofs.Choice.{and-both}
-use Rattle.units.specs.Limits.{isDays, hoursOfDay, monthPlaces}
+use Rattle.units.specs.Limits.{hoursOfDay, monthPlaces}
 use Rattle.history.specs.Rules.{placesOf}
 use Rattle.history.specs.Inner.{runsFit, ruledAt}
 use Rattle.history.proofs.Days.{hours-even}
-use Rattle.head.specs.Rules.{lossFeeRefusal, monthRules}
+use Rattle.history.proofs.Board.{fit-opens}
+use Rattle.head.specs.Rules.{monthRules}
 use Rattle.head.specs.Inner.{headFits, boardIn}
 use borrow.Author.Needs.{needs}
 use Rattle.head.proofs.Sound.{most-days}
@@ -63,7 +65,7 @@ shared-slice-read-deed-refusal c =
     let e = p .before .before in
     let a = e .before .before .before .before .before .args in
     let days = a .head .days in
-    let opens = and-both (isDays days) (eqb (lossFeeRefusal (a .head .fee .0)) 0) (seen e) .0 in
+    let opens = fit-opens (monthRules days) (boardIn (a .head) [] []) (seen e) in
     let long = eqb-true (length (a .marks .now)) monthPlaces (and-both (eqb (length (a .marks .now)) monthPlaces) _ (runs (e .before .before)) .0) in
     omega (arith, i .if4 .left, p .places .ensures, hours-even hoursOfDay days, most-days days opens, long)
 

@@ -1,11 +1,7 @@
 -- `fault_lines::put_fault` meets its contract: the line is spelled, and put at once. Assumes nothing.
-use Prim.Native.Nat.{ℕ}
-use mathlib.Core.Path.{_≡_, sym}
-use mathlib.Core.List.{List}
-use lib.ListN.{length, take}
+use mathlib.Core.Path.{sym}
 use lib.Seq.{length-take-le}
-use Rattle.text.specs.Text.{put}
-use Rattle.text.proofs.Pieces.{front-put}
+use Rattle.text.proofs.Pieces.{begun-front}
 use borrow.Author.Needs.{needs}
 use Rattle.fault_lines.proofs.put_fault.Statement.{statement}
 use Rattle.fault_lines.proofs.put_fault.Tie as tie
@@ -28,12 +24,8 @@ put-requires c κs = search needs
 same-length : tie.Need-same-length
 same-length c = search needs
 
--- what was spelled is read back
-back : {mid : List ℕ} {n : ℕ} (out text : List ℕ) → n ≡ length text → mid ≡ put out 0 text → take n mid ≡ text
-back out text n e = rw (n, e) (front-put out text)
-
 returns : tie.Need-returns
-returns c = let e = c .before .before .before .before .before .before .spell .ensures in rw (back _ _ (e .0) (e .1 .0)) at (c .before .before .put .ensures)
+returns c = let e = c .before .before .before .before .before .before .spell .ensures in rw (begun-front _ _ (e .0, e .1 .0)) at (c .before .before .put .ensures)
 
 pub put-fault-spec : {M : Type 1} → statement M
 put-fault-spec =

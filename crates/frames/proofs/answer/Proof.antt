@@ -21,6 +21,12 @@ enum-told-3 c = search needs
 asked-requires : tie.Need-asked-requires
 asked-requires c κs = search needs
 
+enum-told-4 : tie.Need-enum-told-4
+enum-told-4 c = search needs
+
+loss-frames-requires : tie.Need-loss-frames-requires
+loss-frames-requires c κs = search needs
+
 returns : tie.Need-returns
 returns c = rw (c .before .enum-told .given .1) (c .post .ensures)
 
@@ -29,6 +35,9 @@ returns-2 c = rw (c .before .enum-told2 .given .1) (c .post2 .ensures)
 
 returns-3 : tie.Need-returns-3
 returns-3 c = rw (c .before .enum-told3 .given .1) (c .asked .ensures)
+
+returns-4 : tie.Need-returns-4
+returns-4 c = rw (c .before .enum-told4 .given .1) (c .loss-frames .ensures)
 
 pub answer-spec : {M : Type 1} → statement M
 answer-spec =
@@ -40,6 +49,9 @@ answer-spec =
     post-requires-2
     enum-told-3
     asked-requires
+    enum-told-4
+    loss-frames-requires
     returns
     returns-2
-    returns-3)
+    returns-3
+    returns-4)

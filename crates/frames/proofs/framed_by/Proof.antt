@@ -1,5 +1,5 @@
 -- `frames::framed_by` meets its contract: straight-line code that mirrors the definition, and the test of its number. Assumes nothing.
-use mathlib.Core.Path.{_≡_, refl, sym}
+use mathlib.Core.Path.{_≡_, refl, sym, _∙_}
 use mir.Facts.{toZ-ofZ}
 use borrow.Author.Tests.{ne-eqb}
 use Rattle.whole.specs.Choice.{orElse}
@@ -35,9 +35,18 @@ number c =
     let f = u .before .before .before .fits in
     sym (rw (v .unless2 .ensures, w .within3 .ensures, u .unless .ensures, u .before .within2 .ensures, u .before .before .within .ensures, toZ-ofZ (f .kind), toZ-ofZ (f .day), toZ-ofZ (f .hour)) at (c .or-else .ensures))
 
+no-entry-requires : tie.Need-no-entry-requires
+no-entry-requires c κs = search needs
+
+single-requires : tie.Need-single-requires
+single-requires c κs = search needs
+
 returns : tie.Need-returns
 unfolding framedBy
-returns c = rw (number (c .before), ne-eqb _ _ (c .if1 .taken)) refl
+returns c =
+    let e = c .before in
+    let t = e .before in
+    c .single .ensures ∙ rw (number (t .before), ne-eqb _ _ (t .if1 .taken), e .no-entry .ensures) refl
 
 byte-of-requires : tie.Need-byte-of-requires
 byte-of-requires c κs = search needs
@@ -48,14 +57,19 @@ byte-of-requires-2 c κs = search needs
 byte-of-requires-3 : tie.Need-byte-of-requires-3
 byte-of-requires-3 c κs = search needs
 
+single-requires-2 : tie.Need-single-requires-2
+single-requires-2 c κs = search needs
+
 returns-2 : tie.Need-returns-2
 unfolding framedBy
 returns-2 c =
-    let y = c .before in
+    let z = c .before in
+    let y = z .before in
     let x = y .before in
     let l = x .before in
     let f = l .before .before .before .before .before .before .before .fits in
-    rw (number (l .before), l .if1 .left, toZ-ofZ (f .amount), c .byte-of3 .ensures, y .byte-of2 .ensures, x .byte-of .ensures, toZ-ofZ (f .kind), toZ-ofZ (f .day), toZ-ofZ (f .hour))
+    c .single2 .ensures
+    ∙ rw (number (l .before), l .if1 .left, toZ-ofZ (f .amount), z .byte-of3 .ensures, y .byte-of2 .ensures, x .byte-of .ensures, toZ-ofZ (f .kind), toZ-ofZ (f .day), toZ-ofZ (f .hour))
 
 pub framed-by-spec : {M : Type 1} → statement M
 framed-by-spec =
@@ -67,8 +81,11 @@ framed-by-spec =
     within-requires-3
     unless-requires-2
     or-else-requires
+    no-entry-requires
+    single-requires
     returns
     byte-of-requires
     byte-of-requires-2
     byte-of-requires-3
+    single-requires-2
     returns-2)

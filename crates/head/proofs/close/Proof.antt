@@ -23,7 +23,7 @@ number c = let h = c .before in simp (h .fits2 .ensures, h .before .unless .ensu
 
 returns : tie.Need-returns
 unfolding headedOf rulingOn nextOn
-returns c = let n = number (c .before .before) in rw (n, eq-eqb _ 0 (sym n ∙ c .before .if1 .taken))
+returns c = let t = c .before .before in let n = number (t .before) in rw (n, eq-eqb _ 0 (sym n ∙ t .if1 .taken))
 
 returns-2 : tie.Need-returns-2
 unfolding headedOf rulingOn nextOn

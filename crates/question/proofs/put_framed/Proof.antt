@@ -1,5 +1,9 @@
--- `question::put_framed` meets its contract: its parts are cut out, and the frame of their answer is put. Assumes nothing.
+-- `question::put_framed` meets its contract: its parts are cut out, and the frames of their answer are put. Assumes nothing.
+use native.Mathlib.Omega.{arith}
 use borrow.Author.Needs.{needs}
+use Rattle.text.proofs.Pieces.{begin}
+use Rattle.frame_lines.proofs.Laws.{frames-long}
+use Rattle.question.specs.Questions.{framePrints}
 use Rattle.question.proofs.put_framed.Statement.{statement}
 use Rattle.question.proofs.put_framed.Tie as tie
 
@@ -21,8 +25,8 @@ rest-requires-2 c κs = search needs
 answer-requires : tie.Need-answer-requires
 answer-requires c κs = search needs
 
-put-frame-requires : tie.Need-put-frame-requires
-put-frame-requires c κs = search needs
+put-frames-requires : tie.Need-put-frames-requires
+put-frames-requires c κs = search needs
 
 same-length : tie.Need-same-length
 same-length c = search needs
@@ -35,7 +39,11 @@ returns c =
     let h2 = q .before in
     let r = h2 .before in
     let e = rw (r .before .head-of .ensures, h2 .head-of2 .ensures, r .rest .ensures, q .part .ensures, q2 .rest2 .ensures) at (x .answer .ensures) in
-    rw e at (c .before .before .put-frame .ensures)
+    let s = r .before .before .before .before in
+    let p = rw e at (c .before .before .put-frames .ensures) in
+    let long = frames-long (framePrints (s .args .asks) (s .args .numbers .now) (s .args .places)) in
+    let one = begin (s .args .out .now) _ _ _ (omega (arith, long, s .pre)) (p .0) (p .1) in
+    (one .0, (one .1, omega (arith, one .0, long)))
 
 pub put-framed-spec : {M : Type 1} → statement M
 put-framed-spec =
@@ -47,6 +55,6 @@ put-framed-spec =
     part-requires
     rest-requires-2
     answer-requires
-    put-frame-requires
+    put-frames-requires
     same-length
     returns)

@@ -61,6 +61,9 @@ hourly-requires-6 c κs = search needs
 singles-requires-8 : tie.Need-singles-requires-8
 singles-requires-8 c κs = search needs
 
+singles-requires-9 : tie.Need-singles-requires-9
+singles-requires-9 c κs = search needs
+
 returns : tie.Need-returns
 unfolding questionOf letterOf
 returns c = rw (c .before .match .keys1) (c .singles .ensures)
@@ -135,7 +138,11 @@ returns-18 c = rw (c .before .match .keys18) (c .singles8 .ensures)
 
 returns-19 : tie.Need-returns-19
 unfolding questionOf letterOf
-returns-19 c = sym (nowhere (c .before .args .code) Unit table (c .match .rest) .1)
+returns-19 c = rw (c .before .match .keys19) (c .singles9 .ensures)
+
+returns-20 : tie.Need-returns-20
+unfolding questionOf letterOf
+returns-20 c = sym (nowhere (c .before .args .code) Unit table (c .match .rest) .1)
 
 pub question-of-spec : {M : Type 1} → statement M
 question-of-spec =
@@ -159,6 +166,7 @@ question-of-spec =
     hourly-requires-5
     hourly-requires-6
     singles-requires-8
+    singles-requires-9
     returns
     returns-2
     returns-3
@@ -177,4 +185,5 @@ question-of-spec =
     returns-16
     returns-17
     returns-18
-    returns-19)
+    returns-19
+    returns-20)

@@ -8,7 +8,8 @@ use lib.ListN.{length, length-append}
 use Rattle.text.specs.Text.{decimalOf, put}
 use Rattle.text.proofs.Places.{length-put}
 use Rattle.text.proofs.Spelling.{length-decimal}
-use Rattle.question.specs.Lines.{fieldsText, lineText, endOfLine}
+use Rattle.frame_lines.specs.Text.{endOfLine}
+use Rattle.question.specs.Lines.{fieldsText, lineText}
 use Rattle.text.proofs.Pieces.{Begun, begin, more, further}
 use Rattle.question.proofs.lines.put_line.Statement.{statement}
 use Rattle.question.proofs.lines.put_line.Tie as tie

@@ -1,0 +1,3 @@
+-- The lines of frames.
+pub mod Text
+pub mod Inner
