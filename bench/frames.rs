@@ -15,7 +15,11 @@ fn main() -> io::Result<()> {
         if i == 0 {
             bytes[1] = 31;
         } else {
-            bytes[0] = [1, 1, 2, 2, 3, 3, 4, 6][chance(8) as usize];
+            bytes[0] = match chance(100) {
+                0 => 4,
+                1 => 6,
+                _ => 1 + chance(3) as u8,
+            };
             let at_an_hour = bytes[0] < 4;
             if at_an_hour {
                 bytes[1] = 1 + chance(31) as u8;

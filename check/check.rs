@@ -49,7 +49,7 @@ const fn runs(name: &'static str, runs: usize, asks: Asks) -> Part {
     Part { name, asks, runs, grows: true }
 }
 
-const PARTS: [Part; 29] = [
+const PARTS: [Part; 30] = [
     once("figures", Asks::Desk(figures::questions)),
     once("kilowatts", Asks::Desk(questions::kilowatts)),
     once("curve", Asks::Desk(questions::curve)),
@@ -70,6 +70,7 @@ const PARTS: [Part; 29] = [
     runs("long texts", 1, Asks::Desk(questions::long_text)),
     runs("counts", 1, Asks::Desk(questions::counts)),
     runs("desk | ledger", 2, Asks::Both(questions::month)),
+    once("desk | ledger fees", Asks::Both(figures::piped_fees)),
     once("ledger figures", Asks::Ledger(figures::frames)),
     once("ledger fees", Asks::Ledger(figures::fees)),
     runs("ledger reader", 1, Asks::Ledger(frames::reader)),

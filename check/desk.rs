@@ -1,4 +1,4 @@
-//! The text form of `desk`: how it reads questions, and the lines that it prints for each. The rules are document 01's (rules.rs, month.rs).
+//! The text form of `desk`: how it reads questions, and the lines that it prints for each. The rules are the papers' (rules.rs, month.rs).
 
 use crate::faults::{wrong, Fault};
 use crate::month::{write, Frame};
@@ -234,7 +234,8 @@ fn hour_frame(numbers: &[i64], head: usize) -> Answer<String> {
 /// The frames that set the basic and the excess fee, or the refusal alone.
 fn loss_frames(charged: i64, discharged: i64, volts: i64, cost: i64) -> Answer<[String; 2]> {
     let (basic, excess) = rules::loss(charged, discharged, volts, cost)?;
-    Ok([frame(4, 0, 0, basic)?, frame(6, 0, 0, excess)?])
+    let second = if wrong(Fault::OneFeeTwice) { basic } else { excess };
+    Ok([frame(4, 0, 0, basic)?, frame(6, 0, 0, second)?])
 }
 
 /// The lines of a question's answer: one, but for `loss_frames`.

@@ -20,12 +20,13 @@ pub enum Fault {
     OneLossFee,
     ExcessNotTaken,
     HourOfSix,
+    OneFeeTwice,
     KindBeforeSum,
     CountedAtTheEnd,
 }
 
 /// The name on the command line, the fault, and what it does.
-pub const FAULTS: [(&str, Fault, &str); 17] = [
+pub const FAULTS: [(&str, Fault, &str); 18] = [
     ("half-toward-zero", Fault::HalfTowardZero, "a half is rounded toward zero"),
     ("window-of-three", Fault::WindowOfThree, "a rolling rate looks at three seconds"),
     ("own-second", Fault::OwnSecond, "a power is judged by its own second's frequency"),
@@ -37,10 +38,11 @@ pub const FAULTS: [(&str, Fault, &str); 17] = [
     ("seven-and-eight", Fault::SevenAndEight, "refusals 7 and 8 are swapped"),
     ("second-post", Fault::SecondPost, "a second post overwrites the first"),
     ("withdrawal-forgotten", Fault::WithdrawalForgotten, "the total still counts a withdrawn hour"),
-    ("fee-after-close", Fault::FeeAfterClose, "a closed month takes an excess loss fee"),
+    ("fee-after-close", Fault::FeeAfterClose, "a closed month takes a loss fee"),
     ("one-loss-fee", Fault::OneLossFee, "the loss fee set last is both"),
     ("excess-not-taken", Fault::ExcessNotTaken, "the total takes the basic loss fee away alone"),
     ("hour-of-six", Fault::HourOfSix, "a frame of kind 06 may have an hour"),
+    ("one-fee-twice", Fault::OneFeeTwice, "both frames of a loss have the basic fee"),
     ("kind-before-sum", Fault::KindBeforeSum, "refusal 13 comes before 12"),
     ("counted-at-the-end", Fault::CountedAtTheEnd, "a wrong count is told with the question's last line"),
 ];

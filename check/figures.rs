@@ -1,5 +1,5 @@
-//! The figures that document 01 prints ("Worked figures", "Frames"), typed off the paper, and #101's frames of them: this side's rules have to give them, and the
-//! programs too.
+//! The figures that document 01 prints ("Worked figures", "Frames"), typed off the paper, and #101's frames of them: this side's rules
+//! have to give them, and the programs too.
 
 use crate::draw::Draw;
 use crate::programs::Program;
@@ -53,7 +53,14 @@ const FRAMES: &str = "001F0000000000000000001F\n01030A0000000000001E78A4\n01030A
 const VERDICTS: [&str; 5] = ["1 0", "2 0", "3 7", "4 0", "total -858"];
 
 /// Document 01's loss example in a month of one hour of 300,000 dollars: a basic fee set twice, an excess fee once.
-const FEES: &str = "001F0000000000000000001F\n01010000000000000493E079\n040000000000000000000105\n0400000000000000024EA0F4\n06000000000000000189C050\n";
+const FEES: &str = concat!(
+    "001F0000000000000000001F\n",
+    "01010000000000000493E079\n",
+    "040000000000000000000105\n",
+    "0400000000000000024EA0F4\n",
+    "06000000000000000189C050\n",
+);
+const PIPED_FEES: &str = "frame 0 31 0 0\nframe 1 1 0 300000\nframe 4 0 0 1\nloss_frames 120000 84000 22800 40000\n";
 const FEE_VERDICTS: [&str; 6] = ["1 0", "2 0", "3 0", "4 0", "5 0", "total 48000"];
 
 /// What the paper's figures ask of desk.
@@ -72,6 +79,11 @@ pub fn fees(_: &mut Draw) -> Vec<u8> {
     FEES.into()
 }
 
+/// The same month asked of desk: what it prints goes into `ledger`.
+pub fn piped_fees(_: &mut Draw) -> String {
+    PIPED_FEES.into()
+}
+
 fn answer(question: &str) -> String {
     Program::Desk.expected(question.as_bytes()).join(" ")
 }
@@ -87,6 +99,7 @@ pub fn missed() -> Option<String> {
         (rates != ROLLING).then(|| "the rolling rates".to_string()),
         (Program::Ledger.expected(FRAMES.as_bytes()) != VERDICTS).then(|| "the ledger's sample".to_string()),
         (Program::Ledger.expected(FEES.as_bytes()) != FEE_VERDICTS).then(|| "the two loss fees".to_string()),
+        (Program::Desk.expected(PIPED_FEES.as_bytes()).join("\n") + "\n" != FEES).then(|| "the frames of the two loss fees".to_string()),
     ];
     missed.into_iter().flatten().next()
 }

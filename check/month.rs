@@ -1,5 +1,5 @@
-//! Document 01's frames, ledger and program, with document 02's #101, from the papers alone. The ledger keeps no places: it is the list of accepted calls, and every
-//! refusal and the total are worked out from that list.
+//! Document 01's frames, ledger and program, with document 02's #101, from the papers alone. The ledger keeps no places: it is the list of
+//! accepted calls, and every refusal and the total are worked out from that list.
 
 use crate::faults::{wrong, Fault};
 use crate::rules::{first_refused, Answer, Limits};
@@ -139,7 +139,7 @@ impl Month {
             Call::Close => (None, true, false),
         };
         let filled = place.is_some_and(|place| self.standing(place).is_some());
-        let closed = self.closed() && !(wrong(Fault::FeeAfterClose) && matches!(call, Call::LossFee(Fee::Excess, _)));
+        let closed = self.closed() && !(wrong(Fault::FeeAfterClose) && matches!(call, Call::LossFee(..)));
         let (seven, eight) = if wrong(Fault::SevenAndEight) { (8, 7) } else { (7, 8) };
         let holding = [
             (9, closed),

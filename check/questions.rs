@@ -632,10 +632,12 @@ pub fn month(draw: &mut Draw) -> String {
         let amount = if kind == 2 { draw.any(AMOUNT) } else { 0 };
         ask(draw, &mut text, "frame", &[kind, day, hour, amount]);
     }
-    let (kind, fee) = (draw.of(&[4, 6]), draw.between(0, 1_000_000));
-    ask(draw, &mut text, "frame", &[kind, 0, 0, fee]);
     let loss = tied_loss(draw);
     ask(draw, &mut text, "loss_frames", &loss);
+    if draw.one_in(2) {
+        let (kind, fee) = (draw.of(&[4, 6]), draw.between(0, 1_000_000));
+        ask(draw, &mut text, "frame", &[kind, 0, 0, fee]);
+    }
     ask(draw, &mut text, "frame", &[5, 0, 0, 0]);
     text
 }

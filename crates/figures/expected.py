@@ -97,10 +97,10 @@ class Ledger:
     def set_fee(self, which, a):
         return self.put(self.refused(bad=not 0 <= a <= 10**11), lambda m: setattr(m, which, a))
 
-    def loss_fee(self, a):
+    def set_basic_fee(self, a):
         return self.set_fee("basic", a)
 
-    def excess_fee(self, a):
+    def set_excess_fee(self, a):
         return self.set_fee("excess", a)
 
     def close(self):
@@ -150,21 +150,21 @@ line("a month by hand")
 m = book("open 31", opened(31))
 m = book("post", m.post(3, 10, 7800))
 m = book("post again", m.post(3, 10, 6280))
-m = book("loss fee", m.loss_fee(8658))
+m = book("basic fee", m.set_basic_fee(8658))
 read_out(m)
 m = book("replace", m.replace(3, 10, 6280))
 m = book("withdraw", m.withdraw(3, 10))
 m = book("withdraw empty", m.withdraw(3, 10))
 m = book("replace empty", m.replace(3, 10, 1))
 m = book("post withdrawn", m.post(3, 10, -5))
-m = book("loss fee again", m.loss_fee(100))
+m = book("basic fee again", m.set_basic_fee(100))
 read_out(m)
 m = book("close", m.close())
 m = book("close closed", m.close())
 m = book("post closed", m.post(4, 0, 1))
 m = book("replace closed", m.replace(3, 10, 1))
 m = book("withdraw closed", m.withdraw(3, 10))
-m = book("fee closed", m.loss_fee(1))
+m = book("basic fee closed", m.set_basic_fee(1))
 read_out(m)
 
 line("the ledger at and past the limits")
@@ -184,23 +184,23 @@ for label, d, h, a in [
     ("amount i64", 1, 0, LEAST),
 ]:
     book(label, m.post(d, h, a))
-for label, a in [("fee zero", 0), ("fee below", -1), ("fee most", 10**11), ("fee above", 10**11 + 1), ("fee i64", MOST)]:
-    book(label, m.loss_fee(a))
+for label, a in [("basic fee zero", 0), ("basic fee below", -1), ("basic fee most", 10**11), ("basic fee above", 10**11 + 1), ("basic fee i64", MOST)]:
+    book(label, m.set_basic_fee(a))
 for label, a in [("excess fee below", -1), ("excess fee most", 10**11), ("excess fee above", 10**11 + 1)]:
-    book(label, m.excess_fee(a))
+    book(label, m.set_excess_fee(a))
 
 line("the two loss fees")
 _, m = opened(31)
 m = book("post", m.post(3, 10, 300000))
-m = book("basic fee", m.loss_fee(1))
-m = book("excess fee", m.excess_fee(100800))
+m = book("basic fee", m.set_basic_fee(1))
+m = book("excess fee", m.set_excess_fee(100800))
 read_fees(m)
-m = book("basic fee again", m.loss_fee(151200))
+m = book("basic fee again", m.set_basic_fee(151200))
 assert m.total() == (0, 300000 - 151200 - 100800)
 read_fees(m)
 m = book("close", m.close())
-m = book("basic fee closed", m.loss_fee(2))
-m = book("excess fee closed", m.excess_fee(2))
+m = book("basic fee closed", m.set_basic_fee(2))
+m = book("excess fee closed", m.set_excess_fee(2))
 read_fees(m)
 
 line("the largest month")
@@ -209,7 +209,7 @@ for label, a in [("most", 10**9), ("least", -(10**9))]:
     for d in range(1, 32):
         for h in range(24):
             _, m = m.post(d, h, a)
-    book(label + " and the largest fees", m.loss_fee(10**11)[1].excess_fee(10**11))
+    book(label + " and the largest fees", m.set_basic_fee(10**11)[1].set_excess_fee(10**11))
     read_out(m)
 
 for what in [
@@ -226,8 +226,8 @@ for what in [
     book("post", m.post(3, 10, 1))
     book("replace", m.replace(3, 10, 1))
     book("withdraw", m.withdraw(3, 10))
-    book("loss fee", m.loss_fee(1))
-    book("excess fee", m.excess_fee(1))
+    book("basic fee", m.set_basic_fee(1))
+    book("excess fee", m.set_excess_fee(1))
     book("close", m.close())
     read_out(m)
     read_fees(m)

@@ -189,7 +189,8 @@ def day(m, d, printed):
 
 
 def total(m, loss_fee, printed):
-    k, m = m.loss_fee(loss_fee)
+    """The tables print one loss fee, which is booked as the basic one."""
+    k, m = m.set_basic_fee(loss_fee)
     assert m.total() == (0, printed)
     line("total", k, *m.total())
 

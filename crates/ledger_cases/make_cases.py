@@ -8,7 +8,7 @@ import os
 import random
 
 HERE = os.path.dirname(os.path.abspath(__file__))
-OPEN, POST, REPLACE, WITHDRAW, FEE, CLOSE, EXCESS = range(7)
+OPEN, POST, REPLACE, WITHDRAW, BASIC, CLOSE, EXCESS = range(7)
 DIGITS = b"0123456789ABCDEF"
 
 
@@ -30,13 +30,13 @@ def read(line):
     amount = int.from_bytes(body[3:11], "big", signed=True)
     if kind > EXCESS:
         return 13
-    unused = {OPEN: (hour, amount), WITHDRAW: (amount,), FEE: (day, hour), EXCESS: (day, hour), CLOSE: (day, hour, amount)}.get(kind, ())
+    unused = {OPEN: (hour, amount), WITHDRAW: (amount,), BASIC: (day, hour), EXCESS: (day, hour), CLOSE: (day, hour, amount)}.get(kind, ())
     return 13 if any(unused) else (kind, day, hour, amount)
 
 
 class Desk:
     def __init__(self):
-        self.days, self.hours, self.fees, self.closed = None, {}, {FEE: 0, EXCESS: 0}, False
+        self.days, self.hours, self.fees, self.closed = None, {}, {BASIC: 0, EXCESS: 0}, False
 
     def take(self, entry):
         kind, day, hour, amount = entry
@@ -96,11 +96,26 @@ def damaged(line):
     return line[:22] + (b"00" if line[22:] != b"00" else b"01")
 
 
+def month():
+    """October, 31 days: 744 posts, an hour that the logger sent twice, corrections, a torn line, the basic loss fee set twice, the close, a late post. No frame is of kind 06."""
+    chance = random.Random(31)
+    entries = [frame(OPEN, 31)]
+    for day in range(1, 32):
+        for hour in range(24):
+            amount = chance.randint(3900, 4700) if chance.random() < 0.93 else -chance.randint(3500, 9000)
+            entries.append(frame(POST, day, hour, amount))
+            if (day, hour) == (25, 1):
+                entries.append(frame(POST, day, hour, 4275))
+    entries += [frame(REPLACE, 12, 17, 4350), frame(WITHDRAW, 19, 4), frame(POST, 19, 4, -7900), frame(REPLACE, 32, 0, 1)]
+    entries += [frame(POST, 31, 23, 4400)[:17], frame(BASIC, 0, 0, 151200), frame(BASIC, 0, 0, 100800), frame(CLOSE), frame(POST, 8, 8, 4430)]
+    return lines(*entries)
+
+
 LEAST, LARGEST = -(2**63), 2**63 - 1
 OPENED = frame(OPEN, 30)
 
 CASES = [
-    ("document 01's sample", lines(frame(OPEN, 31), frame(POST, 3, 10, 7800), frame(POST, 3, 10, 6280), frame(FEE, 0, 0, 8658))),
+    ("document 01's sample", lines(frame(OPEN, 31), frame(POST, 3, 10, 7800), frame(POST, 3, 10, 6280), frame(BASIC, 0, 0, 8658))),
     (
         "every refusal: 1, 11, 12, 13 twice, 14, 6 and 14, then 14, 6 four times, 3 four times, 7, 8 twice, 9 twice",
         lines(
@@ -120,8 +135,8 @@ CASES = [
             frame(WITHDRAW, 255, 255),
             frame(POST, 1, 0, 10**9 + 1),
             frame(REPLACE, 1, 0, -(10**9) - 1),
-            frame(FEE, 0, 0, 10**11 + 1),
-            frame(FEE, 0, 0, -1),
+            frame(BASIC, 0, 0, 10**11 + 1),
+            frame(BASIC, 0, 0, -1),
             frame(POST, 1, 0, 5),
             frame(POST, 1, 0, 5),
             frame(REPLACE, 1, 1, 5),
@@ -150,21 +165,21 @@ CASES = [
             frame(POST, 4, 1, 8),
         ),
     ),
-    ("a loss fee replaces the former", lines(OPENED, frame(FEE, 0, 0, 900), frame(FEE, 0, 0, 40), frame(FEE, 0, 0, 10**11 + 1))),
+    ("a basic fee replaces the former", lines(OPENED, frame(BASIC, 0, 0, 900), frame(BASIC, 0, 0, 40), frame(BASIC, 0, 0, 10**11 + 1))),
     (
         "document 01's loss example: the basic fee set twice, the excess fee once",
-        lines(frame(OPEN, 31), frame(POST, 1, 0, 300000), frame(FEE, 0, 0, 1), frame(FEE, 0, 0, 151200), frame(EXCESS, 0, 0, 100800)),
+        lines(frame(OPEN, 31), frame(POST, 1, 0, 300000), frame(BASIC, 0, 0, 1), frame(BASIC, 0, 0, 151200), frame(EXCESS, 0, 0, 100800)),
     ),
     (
         "each fee replaces its own former and leaves the other",
         lines(
             OPENED,
             frame(EXCESS, 0, 0, 7),
-            frame(FEE, 0, 0, 900),
+            frame(BASIC, 0, 0, 900),
             frame(EXCESS, 0, 0, 40),
             frame(EXCESS, 0, 0, 10**11 + 1),
             frame(EXCESS, 0, 0, -1),
-            frame(FEE, 0, 0, 5),
+            frame(BASIC, 0, 0, 5),
             frame(EXCESS, 0, 0, 0),
         ),
     ),
@@ -176,14 +191,14 @@ CASES = [
             frame(EXCESS, 0, 1, 1),
             frame(EXCESS, 1, 0, 1),
             frame(EXCESS, 0, 0, 10**11),
-            frame(FEE, 0, 0, 10**11),
+            frame(BASIC, 0, 0, 10**11),
             frame(CLOSE),
             frame(EXCESS, 0, 0, 1),
         ),
     ),
     (
         "the largest and the least amounts and fees that are taken",
-        lines(OPENED, frame(POST, 1, 0, 10**9), frame(POST, 1, 1, -(10**9)), frame(FEE, 0, 0, 10**11), frame(POST, 1, 2, -(10**9))),
+        lines(OPENED, frame(POST, 1, 0, 10**9), frame(POST, 1, 1, -(10**9)), frame(BASIC, 0, 0, 10**11), frame(POST, 1, 2, -(10**9))),
     ),
     (
         "the least and the largest 64-bit amount",
@@ -194,8 +209,8 @@ CASES = [
             frame(POST, 1, 0, 1),
             frame(REPLACE, 1, 0, LEAST),
             frame(REPLACE, 1, 0, LARGEST),
-            frame(FEE, 0, 0, LEAST),
-            frame(FEE, 0, 0, LARGEST),
+            frame(BASIC, 0, 0, LEAST),
+            frame(BASIC, 0, 0, LARGEST),
             frame(WITHDRAW, 1, 0, LEAST),
             frame(CLOSE, 0, 0, LARGEST),
         ),
@@ -212,7 +227,8 @@ CASES = [
     ("a line of 100,000 bytes between two frames", OPENED + b"\n" + b"0" * 100000 + b"\n" + frame(POST, 1, 0, 5) + b"\n"),
     ("a last line of 100,000 bytes", OPENED + b"\n" + b"F" * 100000),
     ("nothing", b""),
-    ("no open", lines(frame(POST, 1, 0, 5), frame(FEE, 0, 0, 5), frame(CLOSE), b"")),
+    ("the sample month: frames 00 to 05, as before there was kind 06", month()),
+    ("no open", lines(frame(POST, 1, 0, 5), frame(BASIC, 0, 0, 5), frame(CLOSE), b"")),
     ("a refused open, and no other", lines(frame(OPEN, 32), frame(POST, 1, 0, 5))),
     (
         "frames after close",
@@ -223,27 +239,12 @@ CASES = [
             frame(POST, 1, 1, 5),
             frame(REPLACE, 1, 0, 6),
             frame(WITHDRAW, 1, 0),
-            frame(FEE, 0, 0, 1),
+            frame(BASIC, 0, 0, 1),
             frame(CLOSE),
             OPENED,
         ),
     ),
 ]
-
-
-def month():
-    """October, 31 days: 744 posts, an hour that the logger sent twice, corrections, a torn line, the loss fee, the close, a late post."""
-    chance = random.Random(31)
-    entries = [frame(OPEN, 31)]
-    for day in range(1, 32):
-        for hour in range(24):
-            amount = chance.randint(3900, 4700) if chance.random() < 0.93 else -chance.randint(3500, 9000)
-            entries.append(frame(POST, day, hour, amount))
-            if (day, hour) == (25, 1):
-                entries.append(frame(POST, day, hour, 4275))
-    entries += [frame(REPLACE, 12, 17, 4350), frame(WITHDRAW, 19, 4), frame(POST, 19, 4, -7900), frame(REPLACE, 32, 0, 1)]
-    entries += [frame(POST, 31, 23, 4400)[:17], frame(FEE, 0, 0, 151200), frame(FEE, 0, 0, 100800), frame(CLOSE), frame(POST, 8, 8, 4430)]
-    return lines(*entries)
 
 
 def keep(path, data):

@@ -42,14 +42,14 @@ Agrees (some days) h book = (book .opened ≡ true) × (book .days ≡ days) × 
 
 -- ---- a call
 
-called-number : (book : Book) (month : Option ℕ) (h : List (Recorded Fee Item)) (c : Call Fee Item) → Agrees month h book → callRefusal book c ≡ callNumber month h c
+called-number : (book : Book) (month : Option ℕ) (h : List (Recorded Fee Item)) (c : Call Fee Item) → Agrees month h book → callRefusal book c ≡ callNumber monthRules month h c
 unfolding callRefusal
 called-number book none h c g = rw (g .0)
 called-number book (some days) h c (o, d, i, t, r) =
     let R = monthRules days in
     rw (o, d) (good-refusal R (month-sound days i) (book .board) (t .good) c ∙ ruled R h (book .board) t c)
 
-called-next : (book : Book) (month : Option ℕ) (h : List (Recorded Fee Item)) (c : Call Fee Item) → Agrees month h book → Agrees month (callHistory month h c) (callBook book c)
+called-next : (book : Book) (month : Option ℕ) (h : List (Recorded Fee Item)) (c : Call Fee Item) → Agrees month h book → Agrees month (callHistory monthRules month h c) (callBook book c)
 unfolding callBook
 called-next book none h c g = rw (g .0) (refl, g .1)
 called-next book (some days) h c (o, d, i, t, r) =
@@ -59,13 +59,13 @@ called-next book (some days) h c (o, d, i, t, r) =
     let told = subst (λ (k : ℕ). Told R (recorded c k ∷ h) (handed R (book .board) c)) number (next-told R sound h (book .board) t c) in
     rw (o, d) (refl, refl, i, rw (good-left R sound (book .board) (t .good) c) told, (refl, r))
 
-asked-number : (book : Book) (month : Option ℕ) (h : List (Recorded Fee Item)) (c : Option (Call Fee Item)) → Agrees month h book → askedRefusal book c ≡ askedNumber month h c
+asked-number : (book : Book) (month : Option ℕ) (h : List (Recorded Fee Item)) (c : Option (Call Fee Item)) → Agrees month h book → askedRefusal book c ≡ askedNumber monthRules month h c
 asked-number book none h none g = rw (g .0)
 asked-number book (some days) h none g = rw (g .0)
 asked-number book none h (some c) g = called-number book none h c g
 asked-number book (some days) h (some c) g = called-number book (some days) h c g
 
-asked-next : (book : Book) (month : Option ℕ) (h : List (Recorded Fee Item)) (c : Option (Call Fee Item)) → Agrees month h book → Agrees month (askedHistory month h c) (askedBook book c)
+asked-next : (book : Book) (month : Option ℕ) (h : List (Recorded Fee Item)) (c : Option (Call Fee Item)) → Agrees month h book → Agrees month (askedHistory monthRules month h c) (askedBook book c)
 asked-next book month h none g = g
 asked-next book month h (some c) g = called-next book month h c g
 
@@ -99,12 +99,12 @@ opened-next book a days g =
 
 -- ---- a line
 
-line-number : (book : Book) (a : Account) (r : Reading) → Agrees (a .month) (a .history) book → readingRefusal book r ≡ lineNumber a r
+line-number : (book : Book) (a : Account) (r : Reading) → Agrees (a .month) (a .history) book → readingRefusal book r ≡ lineNumber monthRules a r
 unfolding frameRefusal
 line-number book a (Frame e) g = ap₂ (pick (eqb (e .kind) openKind)) (opened-number book (a .month) (a .history) (e .day) g) (asked-number book (a .month) (a .history) (callOf e) g)
 line-number book a (Refused n) g = refl
 
-line-next : (book : Book) (a : Account) (r : Reading) → Agrees (a .month) (a .history) book → Agrees (accountIn a r .month) (accountIn a r .history) (bookIn book r)
+line-next : (book : Book) (a : Account) (r : Reading) → Agrees (a .month) (a .history) book → Agrees (accountIn monthRules a r .month) (accountIn monthRules a r .history) (bookIn book r)
 unfolding frameBook
 line-next book a (Frame e) g =
     by-test (eqb (e .kind) openKind)
@@ -120,7 +120,7 @@ counted-agrees (some days) h n book g = g
 -- ---- all lines, of which k more are read
 
 module _ (book : Book) (a : Account) (l : List ℕ) (k : ℕ) (e : book .count + suc k ≡ mostLines) (g : Agrees (a .month) (a .history) book) where
-  one : (answerTo book l ≡ verdictText (book .count + 1) (lineNumber a (readingOf l))) × (bookAfter book l ≡ countedTo (book .count + 1) (bookIn book (readingOf l)))
+  one : (answerTo book l ≡ verdictText (book .count + 1) (lineNumber monthRules a (readingOf l))) × (bookAfter book l ≡ countedTo (book .count + 1) (bookIn book (readingOf l)))
   one =
       let d = answered-one book l (omega arith) in
       (d .0 ∙ ap (verdictText (book .count + 1)) (line-number book a (readingOf l) g), d .1)
@@ -128,25 +128,25 @@ module _ (book : Book) (a : Account) (l : List ℕ) (k : ℕ) (e : book .count +
   next-count : bookAfter book l .count ≡ book .count + 1
   next-count = ap (λ (b : Book). b .count) (one .1)
 
-  next-agrees : Agrees (accountIn a (readingOf l) .month) (accountIn a (readingOf l) .history) (bookAfter book l)
+  next-agrees : Agrees (accountIn monthRules a (readingOf l) .month) (accountIn monthRules a (readingOf l) .history) (bookAfter book l)
   next-agrees =
-      subst⁻¹ (Agrees (accountIn a (readingOf l) .month) (accountIn a (readingOf l) .history)) (one .1)
-      (counted-agrees (accountIn a (readingOf l) .month) (accountIn a (readingOf l) .history) (book .count + 1) (bookIn book (readingOf l)) (line-next book a (readingOf l) g))
+      subst⁻¹ (Agrees (accountIn monthRules a (readingOf l) .month) (accountIn monthRules a (readingOf l) .history)) (one .1)
+      (counted-agrees (accountIn monthRules a (readingOf l) .month) (accountIn monthRules a (readingOf l) .history) (book .count + 1) (bookIn book (readingOf l)) (line-next book a (readingOf l) g))
 
 lines-told : (book : Book) (a : Account) (ls : List (List ℕ)) (k : ℕ) → book .count + k ≡ mostLines → Agrees (a .month) (a .history) book
-    → (answersTo book ls ≡ linesTold (book .count) a (take k ls)) × Agrees (accountAfter a (take k ls) .month) (accountAfter a (take k ls) .history) (bookAfterAll book ls)
+    → (answersTo book ls ≡ linesTold monthRules readingOf (book .count) a (take k ls)) × Agrees (accountAfter monthRules readingOf a (take k ls) .month) (accountAfter monthRules readingOf a (take k ls) .history) (bookAfterAll book ls)
 lines-told book a ls zero e g =
     let none = ignored book ls (omega arith) in
     (none .0, subst⁻¹ (Agrees (a .month) (a .history)) (none .1) g)
 lines-told book a [] (suc k) e g = (refl, g)
 lines-told book a (l ∷ ls) (suc k) e g =
     let n = next-count book a l k e g in
-    let rest = lines-told (bookAfter book l) (accountIn a (readingOf l)) ls k (omega arith) (next-agrees book a l k e g) in (
-      ap₂ _++_ (one book a l k e g .0) (rest .0 ∙ ap (λ (m : ℕ). linesTold m (accountIn a (readingOf l)) (take k ls)) n),
+    let rest = lines-told (bookAfter book l) (accountIn monthRules a (readingOf l)) ls k (omega arith) (next-agrees book a l k e g) in (
+      ap₂ _++_ (one book a l k e g .0) (rest .0 ∙ ap (λ (m : ℕ). linesTold monthRules readingOf m (accountIn monthRules a (readingOf l)) (take k ls)) n),
       rest .1,
     )
 
-total-told : (month : Option ℕ) (h : List (Recorded Fee Item)) (book : Book) → Agrees month h book → bookTotal book ≡ totalAfter month h
+total-told : (month : Option ℕ) (h : List (Recorded Fee Item)) (book : Book) → Agrees month h book → bookTotal book ≡ totalAfter monthRules month h
 unfolding bookTotal
 total-told none h book g = rw (g .0)
 total-told (some days) h book (o, d, i, t, r) = rw (o, d) (total-is (monthRules days) (month-sound days i) h (book .board) t)

@@ -105,7 +105,7 @@ fn posted() -> Month {
     let m = book(b"open 31", Month::open(31));
     let m = book(b"post", m.post(3, 10, Dollars(7_800)));
     let m = book(b"post again", m.post(3, 10, Dollars(6_280)));
-    let m = book(b"loss fee", m.set_basic_fee(Dollars(8_658)));
+    let m = book(b"basic fee", m.set_basic_fee(Dollars(8_658)));
     read_out(m);
     m
 }
@@ -166,7 +166,7 @@ fn changed(m: Month) -> Month {
     let m = book(b"withdraw empty", m.withdraw(3, 10));
     let m = book(b"replace empty", m.replace(3, 10, Dollars(1)));
     let m = book(b"post withdrawn", m.post(3, 10, Dollars(-5)));
-    let m = book(b"loss fee again", m.set_basic_fee(Dollars(100)));
+    let m = book(b"basic fee again", m.set_basic_fee(Dollars(100)));
     read_out(m);
     m
 }
@@ -178,7 +178,7 @@ fn closed(m: Month) {
     let m = book(b"post closed", m.post(4, 0, Dollars(1)));
     let m = book(b"replace closed", m.replace(3, 10, Dollars(1)));
     let m = book(b"withdraw closed", m.withdraw(3, 10));
-    let m = book(b"fee closed", m.set_basic_fee(Dollars(1)));
+    let m = book(b"basic fee closed", m.set_basic_fee(Dollars(1)));
     read_out(m);
 }
 
@@ -206,11 +206,14 @@ fn amounts(m: Month) {
 }
 
 fn loss_fees(m: Month) {
-    book(b"fee zero", m.set_basic_fee(Dollars(0)));
-    book(b"fee below", m.set_basic_fee(Dollars(-1)));
-    book(b"fee most", m.set_basic_fee(Dollars(100_000_000_000)));
-    book(b"fee above", m.set_basic_fee(Dollars(100_000_000_001)));
-    book(b"fee i64", m.set_basic_fee(Dollars(i64::MAX)));
+    book(b"basic fee zero", m.set_basic_fee(Dollars(0)));
+    book(b"basic fee below", m.set_basic_fee(Dollars(-1)));
+    book(b"basic fee most", m.set_basic_fee(Dollars(100_000_000_000)));
+    book(
+        b"basic fee above",
+        m.set_basic_fee(Dollars(100_000_000_001)),
+    );
+    book(b"basic fee i64", m.set_basic_fee(Dollars(i64::MAX)));
     book(b"excess fee below", m.set_excess_fee(Dollars(-1)));
     book(
         b"excess fee most",
@@ -252,7 +255,7 @@ fn forge(label: &[u8], m: Month) {
     book(b"post", m.post(3, 10, Dollars(1)));
     book(b"replace", m.replace(3, 10, Dollars(1)));
     book(b"withdraw", m.withdraw(3, 10));
-    book(b"loss fee", m.set_basic_fee(Dollars(1)));
+    book(b"basic fee", m.set_basic_fee(Dollars(1)));
     book(b"excess fee", m.set_excess_fee(Dollars(1)));
     book(b"close", m.close());
     read_out(m);

@@ -146,7 +146,7 @@ fn day(m: Month, day: u8) {
     text::end();
 }
 
-// The loss fee, then the month total.
+// A table's loss fee, which is one figure there, as the basic fee; then the month total.
 fn total(m: Month, fee: i64) {
     let b = m.set_basic_fee(Dollars(fee));
     let after = b.month;

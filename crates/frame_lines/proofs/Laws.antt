@@ -7,13 +7,13 @@ use native.Mathlib.Omega.{arith}
 use lib.ListN.{length, length-append, replicate}
 use Rattle.whole.specs.Choice.{pick, orElse}
 use Rattle.whole.proofs.Choice.{both-passed, kept-any, kept-by}
-use Rattle.text.specs.Text.{decimalOf}
+use Rattle.text.specs.Text.{decimalOf, endOfLine}
 use Rattle.text.proofs.Spelling.{length-most}
 use Rattle.frame.specs.Frame.{lineDigits, lineOf}
 use Rattle.frame.specs.declared.Entry.{Entry}
 use Rattle.frame.proofs.Frames.{length-line, write-right}
 use Rattle.frames.specs.declared.Framed.{Framed}
-use Rattle.frame_lines.specs.Text.{endOfLine, aloneText, entryText, framedRefusal, frameText}
+use Rattle.frame_lines.specs.Text.{aloneText, entryText, framedRefusal, frameText}
 use Rattle.frame_lines.specs.Inner.{linedOf, oneText, twoText}
 
 -- a line that the writer takes

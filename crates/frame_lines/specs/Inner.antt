@@ -5,7 +5,8 @@ use lib.ListN.{replicate}
 use Rattle.whole.specs.Choice.{orElse, kept}
 use Rattle.frame.specs.Frame.{lineDigits, writeRefusal, written}
 use Rattle.frame.specs.declared.Entry.{Entry}
-use Rattle.frame_lines.specs.Text.{endOfLine, aloneText}
+use Rattle.text.specs.Text.{endOfLine}
+use Rattle.frame_lines.specs.Text.{aloneText}
 use Rattle.frame_lines.specs.declared.Lined.{Lined}
 
 -- the writer's number and the line, which is only line ends where it is refused

@@ -1,14 +1,12 @@
--- What a question prints that asks for a frame, or for two: of each its 24 digits on a line of its own, or the number of a refusal alone.
+-- What a question prints that asks for a frame, or for two as `loss_frames` does (docs/DESK.md, "Questions"; document 02, #101): of each its 24 digits on a line of its own, or the number of a
+-- refusal alone.
 use Prim.Native.Nat.{ℕ}
-use mathlib.Core.List.{List, [], _∷_, _++_}
+use mathlib.Core.List.{List, _++_}
 use Rattle.whole.specs.Choice.{pick, orElse, kept}
-use Rattle.text.specs.Text.{decimalOf}
+use Rattle.text.specs.Text.{decimalOf, endOfLine}
 use Rattle.frame.specs.Frame.{lineDigits, lineOf, writeRefusal}
 use Rattle.frame.specs.declared.Entry.{Entry}
 use Rattle.frames.specs.declared.Framed.{Framed}
-
-abbrev pub endOfLine : List ℕ
-endOfLine = 10 ∷ []
 
 -- a refusal's number alone
 abbrev pub aloneText : ℕ → List ℕ

@@ -30,6 +30,7 @@ pub fn put_frames(framed: Framed, out: &mut [u8]) -> usize
     put_one(k, bytes, out)
 }
 
+// An entry's line with its end.
 fn lined_of(entry: Entry) -> Lined
     ensures { λ r. ⌜ r ≡ linedOf entry ⌝ }
 {
@@ -41,6 +42,7 @@ fn lined_of(entry: Entry) -> Lined
     }
 }
 
+// One line, or the number k alone where it refuses.
 fn put_one(k: u8, bytes: [u8; 25], out: &mut [u8]) -> usize
     ensures place { λ r. ⌜ r ≡ placeAfter (now (out .entry)) 0 (oneText k bytes) ⌝ }
     ensures text { λ r. ⌜ now (out .exit) ≡ withText (now (out .entry)) 0 (oneText k bytes) ⌝ }
@@ -51,6 +53,7 @@ fn put_one(k: u8, bytes: [u8; 25], out: &mut [u8]) -> usize
     put_alone(k, out)
 }
 
+// The same with a second line, whose own refusal comes after k.
 fn put_two(k: u8, bytes: [u8; 25], second: Lined, out: &mut [u8]) -> usize
     ensures place { λ r. ⌜ r ≡ placeAfter (now (out .entry)) 0 (twoText k bytes second) ⌝ }
     ensures text { λ r. ⌜ now (out .exit) ≡ withText (now (out .entry)) 0 (twoText k bytes second) ⌝ }

@@ -10,8 +10,8 @@ use Rattle.history.specs.Rules.{Call}
 use Rattle.history.specs.Board.{Board, fresh, rulingOn, nextOn}
 use Rattle.history.specs.Inner.{runsFit, ruledIn, handedIn}
 use Rattle.units.specs.Units.{dollars}
-use Rattle.head.specs.Rules.{Fee, basic, excess, sameFee, Item, monthRules}
-use Rattle.head.specs.Inner.{feesOf, boardIn, freshHead, headedOf, headRefusal, withFees}
+use Rattle.head.specs.Rules.{Fee, basic, excess, sameFee, feesOf, Item, monthRules}
+use Rattle.head.specs.Inner.{boardIn, freshHead, headedOf, headRefusal, withFees}
 use Rattle.head.specs.declared.Head.{Head}
 
 -- a call that touches no place, at a head whose runs are the ledger's

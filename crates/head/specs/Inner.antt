@@ -12,18 +12,13 @@ use Rattle.units.specs.Units.{dollars}
 use Rattle.units.specs.declared.Dollars.{Dollars}
 use Rattle.history.specs.Rules.{Call, hoursTo}
 use Rattle.history.specs.Board.{Board, feesFit, rulingOn, nextOn}
-use Rattle.head.specs.Rules.{Fee, basic, excess, Item, monthRules}
+use Rattle.head.specs.Rules.{Fee, basic, excess, feesOf, Item, monthRules}
 use Rattle.head.specs.declared.Head.{Head}
 use Rattle.head.specs.declared.Headed.{Headed}
 
 -- an hour's place: 24 for each day before its own, and itself; an hour that no day has is past every place
 abbrev pub placeOf : ℕ → ℕ → ℕ
 placeOf day hour = pick (leb 1 day && ltb hour hoursOfDay) (hoursTo (λ _. hoursOfDay) (day - 1) + hour) monthPlaces
-
--- two fees, by which is meant
-abbrev pub feesOf : ℤ → ℤ → Fee → ℤ
-feesOf b e basic = b
-feesOf b e excess = e
 
 -- the board of a head and two runs
 abbrev pub boardIn : Head → List Bool → List ℤ → Board Fee Bool ℤ
@@ -51,7 +46,7 @@ headedOf head c =
     let n = kept (headRefusal head c) (nextOn (monthRules (head .days)) b c) b in
     record { refusal = headRefusal head c; head = record { days = head .days; closed = n .closed; basic = dollars (n .fee basic); excess = dollars (n .fee excess) } }
 
--- a fee z is set, and the two fees are then b and e: its number, and the head with them
+-- a fee z is set, and the two fees are then b and e: its number, which is the same whichever fee it is, and the head with them
 unfoldable pub withFees : Head → ℤ → Dollars → Dollars → Headed
 withFees head z b e =
     let k = headRefusal head (Call.lossFee basic z) in

@@ -27,6 +27,11 @@ sameFee basic excess = false
 sameFee excess basic = false
 sameFee excess excess = true
 
+-- two amounts, one for each fee
+abbrev pub feesOf : ℤ → ℤ → Fee → ℤ
+feesOf b e basic = b
+feesOf b e excess = e
+
 -- what stands at an hour: the mark that it is filled, and an amount
 abbrev pub Item : Type 0
 Item = Bool × ℤ

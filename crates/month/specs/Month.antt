@@ -9,8 +9,7 @@ use Rattle.units.specs.Refusals.{notInMonth}
 use Rattle.units.specs.Units.{dollars}
 use Rattle.history.specs.Rules.{Call, Rules}
 use Rattle.history.specs.Board.{Board, refusalOf, nextOf, orReachable, hourOn, dayOn, totalOn, standingOn}
-use Rattle.head.specs.Rules.{Fee, basic, excess, Item, monthRules}
-use Rattle.head.specs.Inner.{feesOf}
+use Rattle.head.specs.Rules.{Fee, basic, excess, feesOf, Item, monthRules}
 use Rattle.board.specs.Board.{toldOf}
 use Rattle.board.specs.declared.Told.{Told}
 use Rattle.month.specs.declared.Month.{Month}

@@ -2,9 +2,8 @@
 use Prim.Native.Nat.{ℕ}
 use mathlib.Core.List.{List, [], _∷_, _++_}
 use lib.IntN.{ℤ}
-use Rattle.text.specs.Text.{decimalOf, signedText}
+use Rattle.text.specs.Text.{decimalOf, signedText, endOfLine}
 use Rattle.words.specs.Replies.{Reply}
-use Rattle.frame_lines.specs.Text.{endOfLine}
 
 -- numbers are separated by one space
 abbrev pub field : ℤ → List ℕ

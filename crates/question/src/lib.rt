@@ -23,16 +23,16 @@ use words::Series;
 mod lines;
 mod parts;
 
-// The places that a run must have at least, so that every line fits.
+// The places that a run must have at least, so that every answer fits.
 pub const ROOM: usize = 32_768;
 
-// How a question was answered: the line's length; or 1 and nothing for a run that is too short.
+// How a question was answered: the text's length; or 1 and nothing for a run that is too short.
 pub struct Answered {
     pub refusal: u8,
     pub written: usize,
 }
 
-// Answers a question that was read: puts its line at the start of out. The word is given by its code, and the line is
+// Answers a question that was read: puts its text at the start of out. The word is given by its code, and the line is
 // the one that it is on; a fault that was found while reading comes with its own line. That the word is none of the
 // questions' comes first.
 pub fn reply(
@@ -96,7 +96,7 @@ fn tell(
     fault_lines::put_fault(fault, line, out)
 }
 
-// The line of a question without a fault.
+// The text of a question without a fault.
 fn put_answer(question: Question, numbers: &[i64], places: Places, out: &mut [u8]) -> usize
     requires { ⌜ room ≤ length (now out) ⌝ }
     ensures place { λ r. ⌜ r ≡ length (answerText question (now (numbers .entry)) places) ⌝ }

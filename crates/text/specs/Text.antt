@@ -21,6 +21,10 @@ unfoldable pub signedText : ℤ → List ℕ
 signedText (pos n) = decimalOf n
 signedText (negsuc n) = 45 ∷ decimalOf (suc n)
 
+-- what ends a line
+abbrev pub endOfLine : List ℕ
+endOfLine = 10 ∷ []
+
 -- a run with a text put at a place
 unfoldable pub put : List ℕ → ℕ → List ℕ → List ℕ
 put out at text = take at out ++ (text ++ drop (at + length text) out)

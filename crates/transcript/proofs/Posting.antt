@@ -5,7 +5,9 @@ use Prim.Native.Nat.{ℕ, _<_}
 use mathlib.Core.Path.{_≡_, refl, ap, _∙_}
 use mathlib.Core.Bool.{true, false, _&&_}
 use mathlib.Core.List.{List, _++_}
+use mathlib.Core.Option.{some}
 use native.Mathlib.Omega.{arith}
+use lib.Dec.{eqb}
 use lib.IntN.{ℤ, pos, negsuc}
 use mir.Syntax.{w64}
 use mir.Val.{SFits}
@@ -13,10 +15,12 @@ use Rattle.whole.specs.Whole.{inRange}
 use Rattle.whole.proofs.Choice.{by-test, and-both, passed, both-passed, kept-new}
 use Rattle.whole.proofs.Signed.{inside, within-fits}
 use Rattle.whole.proofs.Sums.{in-within-below}
-use Rattle.frame.specs.Kinds.{postKind, basicFeeKind, excessFeeKind}
+use Rattle.frame.specs.Kinds.{openKind, postKind, basicFeeKind, excessFeeKind}
 use Rattle.frame.specs.Frame.{inForm, readingOf, lineOf, writeRefusal}
 use Rattle.frame.specs.declared.Entry.{Entry}
 use Rattle.frame.specs.declared.Reading.the-variants.{Frame}
+use Rattle.history.specs.Rules.{Call}
+use Rattle.head.specs.Rules.{Fee, basic, excess}
 use Rattle.book.specs.Book as book
 use Rattle.book.specs.Book.{Book, callOf, frameBook, readingRefusal, bookIn}
 use Rattle.frame.proofs.RoundTrip.{read-written}
@@ -32,8 +36,8 @@ use Rattle.units.specs.declared.Dollars.{Dollars}
 use Rattle.loss.proofs.Laws.{loss-posts}
 use Rattle.frames.specs.Frames.{framedBy, hourPost, feeEntry, lossFrames}
 use Rattle.question.specs.Parts.{headOf}
-use Rattle.transcript.specs.Posts.{hourFramed, hourFrame, posting, Posts, Piped, lossAsked, basicSet, excessSet, SetsFees}
-use Rattle.frame_lines.specs.Text.{endOfLine, framedRefusal, frameText}
+use Rattle.transcript.specs.Posts.{hourFramed, hourFrame, posting, Posts, Piped, lossAsked, basicSet, SetsFee, SetsFees}
+use Rattle.frame_lines.specs.Text.{entryText, framedRefusal, frameText}
 
 -- a number that is a byte, as a byte
 byte-is : (z : ℤ) → isByte z ≡ true → pos (byteOf z) ≡ z
@@ -77,7 +81,7 @@ posts asks n places z =
       accepted = p .0;
       day-asked = byte-is day (b .0);
       hour-asked = byte-is hour (b .1);
-      text = kept-new _ _ z ∙ ap (λ (e : Entry). lineOf e ++ endOfLine) (entry-is asks n places k);
+      text = kept-new _ _ z ∙ ap entryText (entry-is asks n places k);
       reads = reads-back day hour h;
     }
 
@@ -91,31 +95,29 @@ books-the-hour asks n places book z =
 
 -- ---- the loss fees
 
--- an entry that sets a fee of the ledger's range reads back
-fee-reads : (kind : ℕ) (fee : Dollars) → kind < 256 → inForm (feeEntry kind fee) ≡ true → isLossFee (fee .0) ≡ true → readingOf (lineOf (feeEntry kind fee)) ≡ Frame (feeEntry kind fee)
-fee-reads kind fee k form fits =
-    read-written (feeEntry kind fee) (record { kind = k; day = omega arith; hour = omega arith; amount = within-fits w64 tt (in-within-below {k = mostLossFee} fits) }) form
-
-pub books-the-fees : (n : List ℤ) (book : Book) → lossAsked n .refusal ≡ 0 → SetsFees n book
-unfolding lossFrames headOf frameText writeRefusal book.frameRefusal frameBook callOf inForm
-books-the-fees n book z =
+-- an entry that names a fee's setting, by its form and its range
+sets-fee : (kind : ℕ) (fee : Dollars) (f : Fee) (book : Book) → kind < 256 → inForm (feeEntry kind fee) ≡ true → eqb kind openKind ≡ false → callOf (feeEntry kind fee) ≡ some (Call.lossFee f (fee .0))
+    → isLossFee (fee .0) ≡ true → SetsFee (feeEntry kind fee) f (fee .0) book
+unfolding book.frameRefusal frameBook
+sets-fee kind fee f book k form call names range =
     record {
-      text = ap frameText (kept-new _ _ z);
-      basic-reads = basic;
-      excess-reads = excess;
-      basic-fits = rw (fits .0);
-      excess-fits = rw (fits .1);
-      basic-answered = ap (readingRefusal book) basic;
-      excess-answered = ap (readingRefusal book) excess;
-      basic-kept = ap (bookIn book) basic;
-      excess-kept = ap (bookIn book) excess;
+      reads = reads;
+      fits = rw range;
+      answered = ap (readingRefusal book) reads ∙ rw (call, names);
+      kept = ap (bookIn book) reads ∙ rw (call, names);
     }
   where
-    fits : (isLossFee (lossAsked n .basic .0) ≡ true) × (isLossFee (lossAsked n .excess .0) ≡ true)
-    fits = loss-posts (number n 0) (number n 1) (number n 2) (number n 3)
+    reads : readingOf (lineOf (feeEntry kind fee)) ≡ Frame (feeEntry kind fee)
+    reads =
+        read-written (feeEntry kind fee)
+        (record { kind = k; day = omega arith; hour = omega arith; amount = within-fits w64 tt (in-within-below {k = mostLossFee} range) }) form
 
-    basic : readingOf (lineOf (basicSet n)) ≡ Frame (basicSet n)
-    basic = fee-reads basicFeeKind (lossAsked n .basic) (omega arith) refl (fits .0)
-
-    excess : readingOf (lineOf (excessSet n)) ≡ Frame (excessSet n)
-    excess = fee-reads excessFeeKind (lossAsked n .excess) (omega arith) refl (fits .1)
+pub books-the-fees : (n : List ℤ) (book : Book) → lossAsked n .refusal ≡ 0 → SetsFees n book
+unfolding lossFrames headOf frameText writeRefusal callOf inForm
+books-the-fees n book z =
+    let fits = loss-posts (number n 0) (number n 1) (number n 2) (number n 3) in
+    record {
+      text = ap frameText (kept-new _ _ z);
+      basic-set = sets-fee basicFeeKind (lossAsked n .basic) basic book (omega arith) refl refl refl (fits .0);
+      excess-set = sets-fee excessFeeKind (lossAsked n .excess) excess (bookIn book (readingOf (lineOf (basicSet n)))) (omega arith) refl refl refl (fits .1);
+    }

@@ -7,7 +7,7 @@ use mathlib.Core.List.{List, _++_}
 use lib.IntN.{ℤ, pos}
 use lib.ListN.{drop}
 use Rattle.history.specs.Rules.{Call}
-use Rattle.head.specs.Rules.{basic, excess, lossFeeRefusal}
+use Rattle.head.specs.Rules.{Fee, basic, excess, lossFeeRefusal}
 use Rattle.frame.specs.Kinds.{postKind, basicFeeKind, excessFeeKind}
 use Rattle.frame.specs.Frame.{readingOf, lineOf}
 use Rattle.frame.specs.declared.Entry.{Entry}
@@ -22,7 +22,7 @@ use Rattle.loss.specs.declared.LossFee.{LossFee}
 use Rattle.frames.specs.Frames.{hourPost, feeEntry, lossFrames}
 use Rattle.frames.specs.declared.Framed.{Framed}
 use Rattle.question.specs.Parts.{headOf, bandsIn}
-use Rattle.frame_lines.specs.Text.{endOfLine, entryText, frameText}
+use Rattle.frame_lines.specs.Text.{entryText, frameText}
 
 -- DAY HOUR, then an hour, its terms after them; and the frame that posts its amount
 abbrev pub hourFramed : words.Hour → List ℤ → Places → Basis
@@ -40,7 +40,7 @@ pub record Posts (asks : words.Hour) (n : List ℤ) (places : Places) (day hour 
   pub accepted : settlement (hourFramed asks n places) .refusal ≡ 0
   pub day-asked : pos day ≡ number n 0
   pub hour-asked : pos hour ≡ number n 1
-  pub text : frameText (hourFrame asks n places) ≡ lineOf (posting day hour (hourFramed asks n places)) ++ endOfLine
+  pub text : frameText (hourFrame asks n places) ≡ entryText (posting day hour (hourFramed asks n places))
   pub reads : readingOf (lineOf (posting day hour (hourFramed asks n places))) ≡ Frame (posting day hour (hourFramed asks n places))
 
 -- ---- `desk | ledger`
@@ -65,15 +65,15 @@ basicSet n = feeEntry basicFeeKind (lossAsked n .basic)
 abbrev pub excessSet : List ℤ → Entry
 excessSet n = feeEntry excessFeeKind (lossAsked n .excess)
 
--- `desk | ledger`: the two lines set the fees of the loss that was asked, and neither is turned away for its range; each is answered as that setting by hand, and leaves the book that the
--- setting leaves
+-- an entry's line sets a fee to an amount: it reads back, the amount is in the ledger's range, and the ledger's program answers it and keeps its book as for that setting by hand
+pub record SetsFee (entry : Entry) (f : Fee) (z : ℤ) (book : Book) : Type 0 where
+  pub reads : readingOf (lineOf entry) ≡ Frame entry
+  pub fits : lossFeeRefusal z ≡ 0
+  pub answered : readingRefusal book (readingOf (lineOf entry)) ≡ callRefusal book (Call.lossFee f z)
+  pub kept : bookIn book (readingOf (lineOf entry)) ≡ callBook book (Call.lossFee f z)
+
+-- the two lines of `loss_frames`, the second on the book that the first left
 pub record SetsFees (n : List ℤ) (book : Book) : Type 0 where
   pub text : frameText (lossFrames (headOf n)) ≡ entryText (basicSet n) ++ entryText (excessSet n)
-  pub basic-reads : readingOf (lineOf (basicSet n)) ≡ Frame (basicSet n)
-  pub excess-reads : readingOf (lineOf (excessSet n)) ≡ Frame (excessSet n)
-  pub basic-fits : lossFeeRefusal (lossAsked n .basic .0) ≡ 0
-  pub excess-fits : lossFeeRefusal (lossAsked n .excess .0) ≡ 0
-  pub basic-answered : readingRefusal book (readingOf (lineOf (basicSet n))) ≡ callRefusal book (Call.lossFee basic (lossAsked n .basic .0))
-  pub excess-answered : readingRefusal book (readingOf (lineOf (excessSet n))) ≡ callRefusal book (Call.lossFee excess (lossAsked n .excess .0))
-  pub basic-kept : bookIn book (readingOf (lineOf (basicSet n))) ≡ callBook book (Call.lossFee basic (lossAsked n .basic .0))
-  pub excess-kept : bookIn book (readingOf (lineOf (excessSet n))) ≡ callBook book (Call.lossFee excess (lossAsked n .excess .0))
+  pub basic-set : SetsFee (basicSet n) basic (lossAsked n .basic .0) book
+  pub excess-set : SetsFee (excessSet n) excess (lossAsked n .excess .0) (bookIn book (readingOf (lineOf (basicSet n))))

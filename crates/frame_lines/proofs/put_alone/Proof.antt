@@ -4,10 +4,10 @@ use native.Mathlib.Omega.{arith}
 use mathlib.Core.Path.{_≡_, sym}
 use lib.ListN.{length, length-append, replicate}
 use lib.Seq.{length-take-le}
-use Rattle.text.specs.Text.{decimalOf}
+use Rattle.text.specs.Text.{decimalOf, endOfLine}
 use Rattle.text.proofs.Spelling.{length-decimal}
 use Rattle.text.proofs.Pieces.{Begun, begin, more, begun-front}
-use Rattle.frame_lines.specs.Text.{endOfLine, aloneText}
+use Rattle.frame_lines.specs.Text.{aloneText}
 use borrow.Author.Needs.{needs}
 use Rattle.frame_lines.proofs.put_alone.Statement.{statement}
 use Rattle.frame_lines.proofs.put_alone.Tie as tie

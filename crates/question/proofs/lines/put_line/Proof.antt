@@ -5,10 +5,9 @@ use native.Mathlib.Omega.{arith}
 use mathlib.Core.Path.{_≡_, ap, _∙_}
 use mathlib.Core.List.{_++_, append-assoc}
 use lib.ListN.{length, length-append}
-use Rattle.text.specs.Text.{decimalOf, put}
+use Rattle.text.specs.Text.{decimalOf, put, endOfLine}
 use Rattle.text.proofs.Places.{length-put}
 use Rattle.text.proofs.Spelling.{length-decimal}
-use Rattle.frame_lines.specs.Text.{endOfLine}
 use Rattle.question.specs.Lines.{fieldsText, lineText}
 use Rattle.text.proofs.Pieces.{Begun, begin, more, further}
 use Rattle.question.proofs.lines.put_line.Statement.{statement}
