@@ -1,7 +1,6 @@
 // Frames: a line of 24 digits, and the entry that it holds.
 ghost use mathlib.Core.Path.{_≡_};
 ghost use lib.ListN.{length};
-ghost use Rattle.frame.specs.Kinds.{usesDay, usesHour, usesAmount};
 ghost use Rattle.frame.specs.Frame.{lineDigits, checked, zeros, openedOf, isZero, inForm, entryOf, readingOf, bodyOf, withSum, lineOf, writeRefusal, written};
 use units::Dollars;
 use units::refusals;
@@ -121,31 +120,14 @@ fn in_form(entry: Entry) -> bool
 {
     let k = entry.kind;
     let amount = entry.amount;
-    if (k == kinds::POST) | (k == kinds::REPLACE) {
-        return true;
+    match k {
+        kinds::POST | kinds::REPLACE => true,
+        kinds::WITHDRAW => is_zero(amount.0),
+        kinds::OPEN => (entry.hour == 0) & is_zero(amount.0),
+        kinds::BASIC_FEE | kinds::EXCESS_FEE => (entry.day == 0) & (entry.hour == 0),
+        kinds::CLOSE => (entry.day == 0) & (entry.hour == 0) & is_zero(amount.0),
+        _ => false,
     }
-    (k <= kinds::EXCESS_FEE)
-        & (uses_day(k) | (entry.day == 0))
-        & (uses_hour(k) | (entry.hour == 0))
-        & (uses_amount(k) | is_zero(amount.0))
-}
-
-fn uses_day(k: u8) -> bool
-    ensures { λ r. ⌜ r ≡ usesDay k ⌝ }
-{
-    (k == kinds::OPEN) | (k == kinds::POST) | (k == kinds::REPLACE) | (k == kinds::WITHDRAW)
-}
-
-fn uses_hour(k: u8) -> bool
-    ensures { λ r. ⌜ r ≡ usesHour k ⌝ }
-{
-    (k == kinds::POST) | (k == kinds::REPLACE) | (k == kinds::WITHDRAW)
-}
-
-fn uses_amount(k: u8) -> bool
-    ensures { λ r. ⌜ r ≡ usesAmount k ⌝ }
-{
-    (k == kinds::POST) | (k == kinds::REPLACE) | (k == kinds::BASIC_FEE) | (k == kinds::EXCESS_FEE)
 }
 
 fn is_zero(z: i64) -> bool
