@@ -1,5 +1,5 @@
 //! The independent check: the proved programs `desk` and `ledger` are asked random questions, and every answer is compared with one that
-//! this program works out by itself from document 01. `check/run` builds and starts it.
+//! this program works out by itself from documents 01 and 02. `check/run` builds and starts it.
 
 mod desk;
 mod draw;

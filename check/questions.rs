@@ -7,7 +7,7 @@ use crate::rules::*;
 const BYTE: Limits = Limits(0, 255);
 const DAY: Limits = Limits(1, 31);
 const HOUR: Limits = Limits(0, 23);
-const KIND: Limits = Limits(0, 5);
+const KIND: Limits = Limits(0, 6);
 const SECONDS: usize = 3600;
 
 // ---- writing a question

@@ -8,7 +8,7 @@ const WIDTH: usize = 160;
 #[derive(Default)]
 pub struct Tally {
     pub runs: usize,
-    /// Questions of desk, printed lines of ledger.
+    /// Printed lines.
     pub cases: usize,
     pub answers: usize,
     pub differences: usize,
@@ -64,7 +64,7 @@ fn from_difference<'a>(expected: &str, came: &str, line: &'a str) -> (usize, &'a
 
 fn in_words(program: Program, input: &[u8], at: usize, expected: &str, came: &str, kept: &str) -> String {
     let asked = cut(&program.asked(input, at));
-    let head = format!("{} was asked (number {} of {kept}): {asked:?}", program.name(), at + 1);
+    let head = format!("{} was asked (line {} of what it prints for {kept}): {asked:?}", program.name(), at + 1);
     if expected.len() <= WIDTH && came.len() <= WIDTH {
         return format!("{head}\n    expected: {expected}\n    came:     {came}");
     }

@@ -25,7 +25,7 @@ use Rattle.intake.specs.Text.{verdictText, totalText}
 use Rattle.intake.specs.Inner.{firstProgress}
 use Rattle.book.specs.Book.{callOf}
 use Rattle.account.specs.Account.{Account, firstAccount, openNumber, callHistory, askedNumber, askedHistory, lineNumber, accountIn, accountAfter, linesTold, totalAfter, linesRead, printedOf}
-use Rattle.account.specs.Earlier.{earlierRules, earlierOf, earlierReading, earlierPrinted, WithoutExcess}
+use Rattle.account.specs.Earlier.{earlierRules, earlierOf, earlierReading, earlierPrinted, NotExcess, WithoutExcess}
 use Rattle.account.specs.Prints.{Prints, inputOf}
 use Rattle.account.proofs.Contracts.{prints-history}
 
@@ -90,9 +90,6 @@ line-same a (Frame e) =
       ap (λ (h : List (Recorded Fee Item)). pick open-first (kept (openNumber (a .month) (e .day)) (record { month = some (e .day); history = [] }) a) (record { month = a .month; history = h })) (s .1),
     )
 line-same a (Refused n) = (refl, refl)
-
-abbrev NotExcess : Reading → Type 0
-NotExcess r = (e : Entry) → r ≡ Frame e → e .kind ≡ excessFeeKind → ⊥
 
 reading-same : (r : Reading) → NotExcess r → earlierOf r ≡ r
 reading-same (Frame e) f = rw (ne-eqb (e .kind) excessFeeKind (f e refl))

@@ -16,7 +16,7 @@ use Rattle.frame.specs.declared.Reading.{Reading}
 use Rattle.frame.specs.declared.Reading.the-variants.{Frame, Refused}
 use Rattle.account.specs.Account.{linesRead, printedBy}
 
--- "less the last accepted loss fee": one fee is taken away
+-- "less the last accepted loss fee": one fee is taken away. The other is set by no line, since `earlierReading` refuses kind 06
 abbrev pub earlierRules : ℕ → Rules Fee Bool ℤ
 earlierRules days =
     let R = monthRules days in
@@ -51,7 +51,10 @@ earlierReading line = earlierOf (readingOf line)
 unfoldable pub earlierPrinted : List ℕ → List ℕ
 earlierPrinted input = printedBy earlierRules earlierReading (linesRead input)
 
--- no line reads as kind 06
+-- a line that does not read as kind 06, and lines none of which does
+abbrev pub NotExcess : Reading → Type 0
+NotExcess r = (e : Entry) → r ≡ Frame e → e .kind ≡ excessFeeKind → ⊥
+
 abbrev pub WithoutExcess : List (List ℕ) → Type 0
 WithoutExcess [] = Unit {0}
-WithoutExcess (l ∷ ls) = ((e : Entry) → readingOf l ≡ Frame e → e .kind ≡ excessFeeKind → ⊥) × WithoutExcess ls
+WithoutExcess (l ∷ ls) = NotExcess (readingOf l) × WithoutExcess ls

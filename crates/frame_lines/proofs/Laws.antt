@@ -1,19 +1,19 @@
 -- How long the lines of frames are, and that what is put is a question's text. By the number of the refusal. Assumes nothing.
 use Prim.Native.Nat.{ℕ, _+_, _≤_}
 use mathlib.Core.Path.{_≡_, refl, sym, ap, ap₂}
-use mathlib.Core.Bool.{Bool, true, false}
+use mathlib.Core.Bool.{true, false}
 use mathlib.Core.List.{List, _++_}
 use native.Mathlib.Omega.{arith}
 use lib.ListN.{length, length-append, replicate}
-use Rattle.whole.specs.Choice.{pick, orElse}
-use Rattle.whole.proofs.Choice.{both-passed, kept-any, kept-by}
+use Rattle.whole.specs.Choice.{orElse}
+use Rattle.whole.proofs.Choice.{by-test, both-passed, kept-any, kept-by}
 use Rattle.text.specs.Text.{decimalOf, endOfLine}
 use Rattle.text.proofs.Spelling.{length-most}
 use Rattle.frame.specs.Frame.{lineDigits, lineOf}
 use Rattle.frame.specs.declared.Entry.{Entry}
 use Rattle.frame.proofs.Frames.{length-line, write-right}
 use Rattle.frames.specs.declared.Framed.{Framed}
-use Rattle.frame_lines.specs.Text.{aloneText, entryText, framedRefusal, frameText}
+use Rattle.frame_lines.specs.Text.{aloneText, entryText, framedRefusal, linesText, frameText}
 use Rattle.frame_lines.specs.Inner.{linedOf, oneText, twoText}
 
 -- a line that the writer takes
@@ -49,8 +49,10 @@ alone-long k = omega (arith, length-append (decimalOf k) endOfLine, length-most 
 pub frames-long : (f : Framed) → length (frameText f) ≤ 50
 unfolding frameText
 frames-long f =
-    kept-any (λ (l : List ℕ). length l ≤ 50) (framedRefusal f) (λ _. lines-long (f .paired)) (omega (arith, alone-long (framedRefusal f)))
+    kept-any (λ (l : List ℕ). length l ≤ 50) (framedRefusal f) (λ _. lines-long) (omega (arith, alone-long (framedRefusal f)))
   where
-    lines-long : (p : Bool) → length (pick p (entryText (f .entry) ++ entryText (f .second)) (entryText (f .entry))) ≤ 50
-    lines-long true = omega (arith, length-append (entryText (f .entry)) (entryText (f .second)), entry-long (f .entry), entry-long (f .second))
-    lines-long false = omega (arith, entry-long (f .entry))
+    lines-long : length (linesText f) ≤ 50
+    lines-long =
+        by-test (f .paired)
+        (λ (p : f .paired ≡ true). rw p (omega (arith, length-append (entryText (f .entry)) (entryText (f .second)), entry-long (f .entry), entry-long (f .second))))
+        (λ (p : f .paired ≡ false). rw p (omega (arith, entry-long (f .entry))))

@@ -8,11 +8,9 @@ use Rattle.whole.specs.Choice.{orElse}
 use Rattle.whole.specs.Refused.{RefusedBare}
 use Rattle.whole.proofs.Choice.{kept-old}
 use Rattle.whole.proofs.Refused.{refused-bare}
-use Rattle.numbers.specs.Numbers.{number}
-use Rattle.loss.specs.Loss.{lossAnswer}
 use Rattle.words.specs.declared.Framing.{Framing}
 use Rattle.words.specs.declared.Framing.the-variants.{DregFrame, EdregFrame, Frame, LossFrames}
-use Rattle.frames.specs.Frames.{entryRefusal, noEntry, single, framedBy, frameAsked, hourPost, lossFrames, frameAnswer}
+use Rattle.frames.specs.Frames.{entryRefusal, noEntry, single, framedBy, frameAsked, hourPost, lossAsked, lossFrames, frameAnswer}
 use Rattle.frames.specs.declared.Framed.{Framed}
 use Rattle.frames.proofs.answer.Reads as answer
 use Rattle.frames.proofs.answer.Kinds as answer-kinds
@@ -32,7 +30,7 @@ answer-bare DregFrame n terms bands readings f = framed-bare _ _ _ _ _ f
 answer-bare EdregFrame n terms bands readings f = framed-bare _ _ _ _ _ f
 answer-bare Frame n terms bands readings f = framed-bare _ _ _ _ _ f
 answer-bare LossFrames n terms bands readings f =
-    refused-bare (λ (x : Framed). x .refusal) bare (lossAnswer (number n 0) (number n 1) (number n 2) (number n 3) .refusal) _ refl refl refl f
+    refused-bare (λ (x : Framed). x .refusal) bare (lossAsked n .refusal) _ refl refl refl f
 
 answer-refused-keeps : RefusedBare 2 answer-kinds.ps answer-kinds.r (λ κs x. x .refusal) (λ κs a k. bare k) answer.Post
 answer-refused-keeps κs a x s p f =

@@ -16,6 +16,7 @@ use Rattle.words.specs.declared.Framing.{Framing}
 use Rattle.words.specs.declared.Framing.the-variants.{DregFrame, EdregFrame, Frame, LossFrames}
 use Rattle.hours.specs.Hours.{hourAsked, settlement}
 use Rattle.loss.specs.Loss.{lossAnswer}
+use Rattle.loss.specs.declared.LossFee.{LossFee}
 use Rattle.frames.specs.declared.Framed.{Framed}
 
 -- 13 for a kind that is no byte, then 6 for a day or an hour (desk rule)
@@ -50,9 +51,12 @@ abbrev pub feeEntry : ℕ → Dollars → Entry
 feeEntry kind fee = record { kind = kind; day = 0; hour = 0; amount = fee }
 
 -- CHARGED DISCHARGED VOLTAGE COST (document 02, #101): the frame that sets the basic fee, and the one that sets the excess fee
+abbrev pub lossAsked : List ℤ → LossFee
+lossAsked n = lossAnswer (number n 0) (number n 1) (number n 2) (number n 3)
+
 unfoldable pub lossFrames : List ℤ → Framed
 lossFrames n =
-    let a = lossAnswer (number n 0) (number n 1) (number n 2) (number n 3) in
+    let a = lossAsked n in
     kept (a .refusal)
     (record { refusal = 0; entry = feeEntry basicFeeKind (a .basic); paired = true; second = feeEntry excessFeeKind (a .excess) })
     (single (a .refusal) noEntry)

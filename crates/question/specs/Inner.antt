@@ -1,4 +1,4 @@
--- What only mirrors the code: the run that a line is put into.
+-- What only mirrors the code: the run that an answer is put into.
 use Prim.Native.Nat.{ℕ, _*_}
 use mathlib.Core.List.{List}
 use lib.Dec.{leb}
@@ -9,7 +9,7 @@ use Rattle.units.specs.Limits.{secondsOfQuarter}
 use Rattle.text.specs.Text.{put}
 use Rattle.question.specs.declared.Answered.{Answered}
 
--- a line in a lent run, which has 32,768 places at least or is refused with 1
+-- an answer in a lent run, which has 32,768 places at least or is refused with 1
 
 abbrev pub room : ℕ
 room = 32768

@@ -108,7 +108,10 @@ fn put_answer(question: Question, numbers: &[i64], places: Places, out: &mut [u8
         Question::Hour(hour) => put_hour(hour, numbers, places, out),
         Question::Series(asks) => put_series(asks, numbers, places, out),
         Question::Frame(asks) => put_framed(asks, numbers, places, out),
-        Question::Unknown => lines::put_alone(0, out),
+        Question::Unknown => {
+            let none = [0i64; 1];
+            lines::put_line(0, &none[..0], out)
+        }
     }
 }
 

@@ -3,7 +3,6 @@ ghost use Prim.Native.Nat.{_+_, _≤_};
 ghost use mathlib.Core.Path.{_≡_};
 ghost use mathlib.Core.Bool.{false};
 ghost use lib.Dec.{leb};
-ghost use mathlib.Core.List.{[]};
 ghost use lib.ListN.{length};
 ghost use Rattle.units.specs.Limits.{secondsOfQuarter};
 ghost use Rattle.text.specs.Text.{put};
@@ -22,17 +21,6 @@ pub(crate) fn put_line(refusal: u8, fields: &[i64], out: &mut [u8]) -> usize
     let a = text::put_decimal(out, 0, refusal as u64);
     let b = put_fields(out, a, fields);
     text::put(out, b, b"\n")
-}
-
-// A refusal's number alone.
-pub(crate) fn put_alone(refusal: u8, out: &mut [u8]) -> usize
-    requires { ⌜ room ≤ length (now out) ⌝ }
-    ensures place { λ r. ⌜ r ≡ length (lineText (reply refusal [])) ⌝ }
-    ensures text { λ r. ⌜ now (out .exit) ≡ put (now (out .entry)) 0 (lineText (reply refusal [])) ⌝ }
-    ensures short { λ r. ⌜ r ≤ room ⌝ }
-{
-    let none = [0i64; 1];
-    put_line(refusal, &none[..0], out)
 }
 
 // Fields one after the other; more than 900 of them have to be short.

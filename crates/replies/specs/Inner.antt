@@ -32,7 +32,7 @@ reachedText reached run = tellText (reached .ended) (reached .asked) run
 unfoldable pub repliedTo : Reached → List ℤ → Replied
 repliedTo reached run = record { refusal = 0; state = reached .state; taken = reached .taken; written = length (reachedText reached run) }
 
--- the lent runs: 8,192 numbers, and room for a line; any other is refused with 1, and nothing is changed
+-- the lent runs: 8,192 numbers, and room for an answer; any other is refused with 1, and nothing is changed
 unfoldable pub runsFitIn : ℕ → ℕ → Bool
 runsFitIn numbers out = eqb numbers mostNumbers && leb room out
 

@@ -34,9 +34,9 @@ use Rattle.numbers.specs.declared.Places.{Places}
 use Rattle.hours.specs.Hours.{Basis, settlement}
 use Rattle.units.specs.declared.Dollars.{Dollars}
 use Rattle.loss.proofs.Laws.{loss-posts}
-use Rattle.frames.specs.Frames.{framedBy, hourPost, feeEntry, lossFrames}
+use Rattle.frames.specs.Frames.{framedBy, hourPost, feeEntry, lossAsked, lossFrames}
 use Rattle.question.specs.Parts.{headOf}
-use Rattle.transcript.specs.Posts.{hourFramed, hourFrame, posting, Posts, Piped, lossAsked, basicSet, SetsFee, SetsFees}
+use Rattle.transcript.specs.Posts.{hourFramed, hourFrame, posting, Posts, Piped, basicSet, SetsFee, SetsFees}
 use Rattle.frame_lines.specs.Text.{entryText, framedRefusal, frameText}
 
 -- a number that is a byte, as a byte

@@ -17,9 +17,7 @@ use Rattle.numbers.specs.Numbers.{number}
 use Rattle.words.specs.declared.Hour as words
 use Rattle.numbers.specs.declared.Places.{Places}
 use Rattle.hours.specs.Hours.{Basis, hourAsked, settlement}
-use Rattle.loss.specs.Loss.{lossAnswer}
-use Rattle.loss.specs.declared.LossFee.{LossFee}
-use Rattle.frames.specs.Frames.{hourPost, feeEntry, lossFrames}
+use Rattle.frames.specs.Frames.{hourPost, feeEntry, lossAsked, lossFrames}
 use Rattle.frames.specs.declared.Framed.{Framed}
 use Rattle.question.specs.Parts.{headOf, bandsIn}
 use Rattle.frame_lines.specs.Text.{entryText, frameText}
@@ -55,10 +53,7 @@ pub record Piped (asks : words.Hour) (n : List ℤ) (places : Places) (book : Bo
 
 -- ---- the loss fees (document 02, #101)
 
--- CHARGED DISCHARGED VOLTAGE COST, and the entries that set its two fees
-abbrev pub lossAsked : List ℤ → LossFee
-lossAsked n = lossAnswer (number n 0) (number n 1) (number n 2) (number n 3)
-
+-- the entries that set the two fees of the loss that was asked
 abbrev pub basicSet : List ℤ → Entry
 basicSet n = feeEntry basicFeeKind (lossAsked n .basic)
 

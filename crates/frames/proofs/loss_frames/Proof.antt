@@ -6,9 +6,7 @@ use mir.Syntax.{w64}
 use mir.Val.{SFits}
 use mir.Facts.{toZ-ofZ}
 use borrow.Author.Tests.{ne-eqb}
-use Rattle.numbers.specs.Numbers.{number}
-use Rattle.loss.specs.Loss.{lossAnswer}
-use Rattle.frames.specs.Frames.{lossFrames}
+use Rattle.frames.specs.Frames.{lossAsked, lossFrames}
 use borrow.Author.Needs.{needs}
 use Rattle.frames.proofs.loss_frames.Statement.{statement}
 use Rattle.frames.proofs.loss_frames.Tie as tie
@@ -29,7 +27,7 @@ loss-fee-requires : tie.Need-loss-fee-requires
 loss-fee-requires c κs = search needs
 
 -- the loss that is asked for
-loss-is : (c : tie.After-loss-fee) → let n = c .before .before .before .before .before .args .t1 in c .loss-fee .result ≡ lossAnswer (number n 0) (number n 1) (number n 2) (number n 3)
+loss-is : (c : tie.After-loss-fee) → let n = c .before .before .before .before .before .args .t1 in c .loss-fee .result ≡ lossAsked n
 loss-is c =
     let n = c .before .before .before .before .before .args .t1 in
     let n0 : SFits w64 (getD n 0 (pos 0)) = search needs in

@@ -30,8 +30,14 @@ put-framed-requires c κs = search needs
 enum-told : tie.Need-enum-told
 enum-told c = search needs
 
-put-alone-requires : tie.Need-put-alone-requires
-put-alone-requires c κs = search needs
+array-share-prefix-none : tie.Need-array-share-prefix-none
+array-share-prefix-none c = search needs
+
+slice-aggregate-put-line : tie.Need-slice-aggregate-put-line
+slice-aggregate-put-line c = search needs
+
+put-line-requires : tie.Need-put-line-requires
+put-line-requires c κs = search needs
 
 same-length : tie.Need-same-length
 same-length c = search needs
@@ -61,7 +67,7 @@ same-length-5 : tie.Need-same-length-5
 same-length-5 c = search needs
 
 returns-5 : tie.Need-returns-5
-returns-5 c = rw (c .before .before .before .before .enum-told .given .1) (c .before .before .put-alone .ensures)
+returns-5 c = let y = c .before .before in rw (y .before .before .before .enum-told .given .1) (y .put-line .ensures)
 
 pub put-answer-spec : {M : Type 1} → statement M
 put-answer-spec =
@@ -76,7 +82,9 @@ put-answer-spec =
     enum-known-question-4
     put-framed-requires
     enum-told
-    put-alone-requires
+    array-share-prefix-none
+    slice-aggregate-put-line
+    put-line-requires
     same-length
     returns
     same-length-2
