@@ -104,18 +104,23 @@ struct Settlement {
     amount: i64,
 }
 
-// The rate of an hour and the sum of each quarter's powers; the scores are handed over once every reading has passed. `transfer` is that of
-// a quarter and its second, from 1.
+// The rate of an hour and the sum of each quarter's powers; the scores are handed over once every reading has passed. The first windows look
+// back into the earlier scores, three or none. `transfer` is that of a quarter and its second, from 1.
 fn judge(
     powers: &[i64],
     frequencies: &[i64],
     capacity: i64,
+    earlier: &[u8],
     scores: &mut [u8],
     transfer: impl Fn(usize, usize) -> i64,
 ) -> Result<(u8, [i64; 4]), u8> {
     let mut judged = [0; SECONDS];
     let mut sums = [0; 4];
-    let (mut a, mut b, mut c) = (0, 0, 0);
+    let (mut a, mut b, mut c) = match *earlier {
+        [] => (0, 0, 0),
+        [c, b, a] if a <= 100 && b <= 100 && c <= 100 => (a, b, c),
+        _ => return Err(BAD_READING),
+    };
     let mut rate = 100;
     let quarters = powers.chunks_exact(QUARTER).zip(frequencies.chunks_exact(QUARTER)).zip(judged.chunks_exact_mut(QUARTER));
     for (q, ((powers, frequencies), judged)) in quarters.enumerate() {
@@ -126,8 +131,8 @@ fn judge(
             let s = score(nearest((power - transfer(q, i + 1)) * 100, capacity), frequency);
             *judged = s;
             sums[q] += power;
-            rate = rate.min(s.max(a).max(b).max(c));
-            (a, b, c) = (s, a, b);
+            rate = rate.min(c.max(b).max(a).max(s));
+            (c, b, a) = (b, a, s);
         }
     }
     scores.copy_from_slice(&judged);
@@ -142,9 +147,9 @@ fn settle(terms: &Terms, bands: &[Band], rate: u8, energy: i64) -> Settlement {
     Settlement { rate, factor, capacity, performance, quality, energy, amount: quality + energy }
 }
 
-// Every refusal but that of the readings.
-fn admit(powers: &[i64], frequencies: &[i64], terms: &Terms, bands: &[Band], scores: &[u8]) -> Result<(), u8> {
-    if powers.len() != SECONDS || frequencies.len() != SECONDS || scores.len() != SECONDS {
+// Every refusal but that of the readings and the earlier scores.
+fn admit(powers: &[i64], frequencies: &[i64], terms: &Terms, bands: &[Band], earlier: &[u8], scores: &[u8]) -> Result<(), u8> {
+    if powers.len() != SECONDS || frequencies.len() != SECONDS || scores.len() != SECONDS || !matches!(earlier.len(), 0 | 3) {
         return Err(WRONG_LENGTH);
     }
     if !(1..=100_000).contains(&terms.capacity) {
@@ -163,10 +168,10 @@ fn admit(powers: &[i64], frequencies: &[i64], terms: &Terms, bands: &[Band], sco
     Ok(())
 }
 
-fn hour(powers: &[i64], frequencies: &[i64], terms: &Terms, bands: &[Band], scores: &mut [u8]) -> Result<Settlement, u8> {
-    admit(powers, frequencies, terms, bands, scores)?;
+fn hour(powers: &[i64], frequencies: &[i64], terms: &Terms, bands: &[Band], earlier: &[u8], scores: &mut [u8]) -> Result<Settlement, u8> {
+    admit(powers, frequencies, terms, bands, earlier, scores)?;
     let targets = &terms.targets;
-    let (rate, sums) = judge(powers, frequencies, terms.capacity, scores, |q, n| ramp(targets[q], targets[q + 1], n))?;
+    let (rate, sums) = judge(powers, frequencies, terms.capacity, earlier, scores, |q, n| ramp(targets[q], targets[q + 1], n))?;
     let parts = sums.iter().zip(&targets[1..]).map(|(sum, target)| match target.signum() {
         1 => sum * terms.discharge,
         -1 => -sum * terms.charge,
@@ -182,11 +187,12 @@ fn dreg_hour(
     clearing: i64,
     performance: i64,
     bands: &[Band],
+    earlier: &[u8],
     scores: &mut [u8],
 ) -> Result<Settlement, u8> {
     let terms = Terms { capacity, clearing, performance, discharge: 0, charge: 0, targets: [0; 5] };
-    admit(powers, frequencies, &terms, bands, scores)?;
-    let (rate, _) = judge(powers, frequencies, capacity, scores, |_, _| 0)?;
+    admit(powers, frequencies, &terms, bands, earlier, scores)?;
+    let (rate, _) = judge(powers, frequencies, capacity, earlier, scores, |_, _| 0)?;
     Ok(settle(&terms, bands, rate, 0))
 }
 
@@ -239,10 +245,11 @@ fn run(shifting: bool, capacity: u64, targets: [i64; 5], count: u64) -> u64 {
         x = next(x);
         let place = n as usize % SECONDS;
         powers[place] = drawn(place, x, capacity, &targets);
+        let earlier = [scores[SECONDS - 3], scores[SECONDS - 2], scores[SECONDS - 1]];
         let answer = if shifting {
-            hour(&powers, &frequencies, &terms, &bands, &mut scores)
+            hour(&powers, &frequencies, &terms, &bands, &earlier, &mut scores)
         } else {
-            dreg_hour(&powers, &frequencies, terms.capacity, terms.clearing, terms.performance, &bands, &mut scores)
+            dreg_hour(&powers, &frequencies, terms.capacity, terms.clearing, terms.performance, &bands, &earlier, &mut scores)
         };
         sum = with_settlement(sum, &answer);
     }

@@ -49,7 +49,7 @@ const fn runs(name: &'static str, runs: usize, asks: Asks) -> Part {
     Part { name, asks, runs, grows: true }
 }
 
-const PARTS: [Part; 30] = [
+const PARTS: [Part; 31] = [
     once("figures", Asks::Desk(figures::questions)),
     once("kilowatts", Asks::Desk(questions::kilowatts)),
     once("curve", Asks::Desk(questions::curve)),
@@ -62,6 +62,7 @@ const PARTS: [Part; 30] = [
     runs("loss", 1, Asks::Desk(questions::loss)),
     runs("dreg", 3, Asks::Desk(questions::dreg)),
     runs("edreg", 3, Asks::Desk(questions::edreg)),
+    runs("first windows", 1, Asks::Desk(questions::first_windows)),
     once("dreg limits", Asks::Desk(questions::dreg_limits)),
     once("edreg limits", Asks::Desk(questions::edreg_limits)),
     runs("hour orders", 1, Asks::Desk(questions::hour_orders)),

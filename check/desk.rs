@@ -2,7 +2,7 @@
 
 use crate::faults::{wrong, Fault};
 use crate::month::{write, Frame};
-use crate::rules::{self, Answer, Band, Hour, Settled, Shift};
+use crate::rules::{self, Answer, Band, Earlier, Hour, Settled, Shift};
 
 const MOST_NUMBERS: usize = 8192;
 const MOST_LETTERS: usize = 12;
@@ -83,7 +83,9 @@ enum Needs {
     Just(usize),
     /// So many, then pairs.
     Pairs(usize),
-    /// So many, then N, N pairs of bands and the hour's readings.
+    /// E, E earlier scores and the hour's own.
+    Scores,
+    /// So many, then N, N pairs of bands, E, E earlier scores and the hour's readings.
     HourAfter(usize),
 }
 
@@ -96,7 +98,7 @@ fn needs(word: &[u8]) -> Option<Needs> {
         b"ramp" | b"fee" => Needs::Just(2),
         b"quality" => Needs::Just(3),
         b"score" | b"loss" | b"frame" | b"loss_frames" => Needs::Just(4),
-        b"rate" => Needs::Just(SECONDS),
+        b"rate" => Needs::Scores,
         b"energy" => Needs::Just(6 + SECONDS),
         b"bands" => Needs::Pairs(0),
         b"factor" => Needs::Pairs(1),
@@ -109,8 +111,8 @@ fn needs(word: &[u8]) -> Option<Needs> {
     Some(needs)
 }
 
-/// "N outside 0..100 counts as 0."
-fn records(n: i64) -> usize {
+/// "N outside 0..100 counts as 0", and so does E.
+fn members(n: i64) -> usize {
     if (0..=100).contains(&n) {
         n as usize
     } else {
@@ -118,12 +120,18 @@ fn records(n: i64) -> usize {
     }
 }
 
+/// Where a list ends whose count stands at this place, each of its members so many numbers. A count that is not there counts as 0.
+fn list_end(numbers: &[i64], at: usize, each: usize) -> usize {
+    at + 1 + each * numbers.get(at).map_or(0, |n| members(*n))
+}
+
 /// How many numbers the question should have, told from those that it has.
 fn needed(needs: &Needs, numbers: &[i64]) -> usize {
     match *needs {
         Needs::Just(count) => count,
         Needs::Pairs(head) => head + numbers.len().saturating_sub(head).next_multiple_of(2),
-        Needs::HourAfter(head) => head + 1 + 2 * numbers.get(head).map_or(0, |n| records(*n)) + 2 * SECONDS,
+        Needs::Scores => list_end(numbers, 0, 1) + SECONDS,
+        Needs::HourAfter(head) => list_end(numbers, list_end(numbers, head, 2), 1) + 2 * SECONDS,
     }
 }
 
@@ -192,21 +200,37 @@ fn as_byte(x: i64) -> i64 {
     }
 }
 
+fn bytes(numbers: &[i64]) -> Vec<i64> {
+    numbers.iter().map(|number| as_byte(*number)).collect()
+}
+
 fn shift(numbers: &[i64], before: i64, targets: &[i64]) -> Shift {
     Shift { discharge: numbers[0], charge: numbers[1], before, targets: targets.try_into().expect("four targets") }
 }
 
+/// E, the scores that it counts, and all after them.
+fn earlier(numbers: &[i64]) -> (Earlier, &[i64]) {
+    let (told, rest) = numbers.split_at(list_end(numbers, 0, 1));
+    (Earlier { count: told[0], scores: bytes(&told[1..]) }, rest)
+}
+
+fn rate(numbers: &[i64]) -> Answer<i64> {
+    let (earlier, scores) = earlier(numbers);
+    rules::rate(&earlier, &bytes(scores))
+}
+
 /// The numbers of `dreg` (3 before N) or `edreg` (10 before N).
 fn hour(numbers: &[i64], head: usize) -> Hour {
-    let tail = &numbers[head + 1..];
-    let (bands, readings) = tail.split_at(tail.len() - 2 * SECONDS);
+    let (told, rest) = numbers.split_at(list_end(numbers, head, 2));
+    let (earlier, readings) = earlier(rest);
     let every_second = |from: usize| readings.iter().skip(from).step_by(2).copied().collect();
     Hour {
         capacity: numbers[0],
         clearing: numbers[1],
         performance: numbers[2],
         shift: (head == EDREG_HEAD).then(|| shift(&numbers[3..5], numbers[5], &numbers[6..10])),
-        bands: pairs(bands),
+        bands: pairs(&told[head + 1..]),
+        earlier,
         powers: every_second(0),
         frequencies: every_second(1),
     }
@@ -252,7 +276,7 @@ fn answer(word: &[u8], n: &[i64]) -> String {
         b"curve" => fields(rules::curve(n[0]).map(|(upper, lower)| [upper, lower])),
         b"score" => fields(rules::score(n[0], n[1], n[2], n[3]).map(|score| [score])),
         b"ramp" => run(rules::ramp(n[0], n[1])),
-        b"rate" => fields(rules::rate(&n.iter().map(|score| as_byte(*score)).collect::<Vec<_>>()).map(|rate| [rate])),
+        b"rate" => fields(rate(n).map(|rate| [rate])),
         b"bands" => fields(rules::bands(&pairs(n)).map(|()| [])),
         b"factor" => fields(rules::factor(&pairs(&n[1..]), as_byte(n[0])).map(|factor| [factor])),
         b"fee" => fields(rules::fee(n[0], n[1]).map(|dollars| [dollars])),

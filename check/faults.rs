@@ -23,10 +23,16 @@ pub enum Fault {
     OneFeeTwice,
     KindBeforeSum,
     CountedAtTheEnd,
+    OldestDropped,
+    EarlierTurned,
+    FourthSecondToo,
+    TwoTaken,
+    CountAfterCapacity,
+    EarlierBeforeCapacity,
 }
 
 /// The name on the command line, the fault, and what it does.
-pub const FAULTS: [(&str, Fault, &str); 18] = [
+pub const FAULTS: [(&str, Fault, &str); 24] = [
     ("half-toward-zero", Fault::HalfTowardZero, "a half is rounded toward zero"),
     ("window-of-three", Fault::WindowOfThree, "a rolling rate looks at three seconds"),
     ("own-second", Fault::OwnSecond, "a power is judged by its own second's frequency"),
@@ -45,6 +51,12 @@ pub const FAULTS: [(&str, Fault, &str); 18] = [
     ("one-fee-twice", Fault::OneFeeTwice, "both frames of a loss have the basic fee"),
     ("kind-before-sum", Fault::KindBeforeSum, "refusal 13 comes before 12"),
     ("counted-at-the-end", Fault::CountedAtTheEnd, "a wrong count is told with the question's last line"),
+    ("oldest-dropped", Fault::OldestDropped, "the oldest earlier score is in no window"),
+    ("earlier-turned", Fault::EarlierTurned, "the newest earlier score is taken to stand first"),
+    ("fourth-second-too", Fault::FourthSecondToo, "the window of second 4 holds an earlier score"),
+    ("two-taken", Fault::TwoTaken, "two earlier scores are taken"),
+    ("count-after-capacity", Fault::CountAfterCapacity, "the 1 of the earlier scores comes after 2"),
+    ("earlier-before-capacity", Fault::EarlierBeforeCapacity, "the 4 of the earlier scores comes before 2"),
 ];
 
 static CHOSEN: OnceLock<Fault> = OnceLock::new();

@@ -1,5 +1,5 @@
-//! The figures that document 01 prints ("Worked figures", "Frames"), typed off the paper, and #101's frames of them: this side's rules
-//! have to give them, and the programs too.
+//! The figures that document 01 prints ("Worked figures", "Frames"), typed off the paper, #101's frames of them, and #102's first
+//! windows: this side's rules have to give them, and the programs too.
 
 use crate::draw::Draw;
 use crate::programs::Program;
@@ -34,7 +34,29 @@ fn lines() -> Vec<(String, &'static str)> {
         ("frame 6 0 0 8658".into(), "06000000000000000021D2F9"),
         ("loss_frames 120000 84000 22800 40000".into(), "0400000000000000024EA0F4 06000000000000000189C050"),
         ("loss_frames 120000 84000 11399 1000001".into(), "3"),
+        (scores("0", "0"), "0 0"),
+        (scores("3 100 100 100", "0"), "0 100"),
+        (scores("3 90 0 0", "0"), "0 90"),
+        (scores("3 90 0 0", "0 0"), "0 0"),
+        (scores("3 0 0 90", "0 0 0"), "0 90"),
+        (scores("3 0 0 90", "0 0 0 0"), "0 0"),
+        (scores("2 100 100", "0"), "1 0"),
+        (scores("3 101 0 0", "0"), "4 0"),
+        (idle(0, "3 101 0 0"), "2 0 0 0 0 0 0 0"),
+        (idle(0, "2 101 0"), "1 0 0 0 0 0 0 0"),
+        (idle(1, "3 101 0 0"), "4 0 0 0 0 0 0 0"),
+        (idle(1, "3 0 0 0"), "0 100 10 0 0 0 0 0"),
     ]
+}
+
+/// An hour's rate after earlier scores: some scores, then 100 in every second.
+fn scores(earlier: &str, first: &str) -> String {
+    format!("rate {earlier} {first}{}", " 100".repeat(3600 - first.split(' ').count()))
+}
+
+/// A dReg hour at 60 Hz in which nothing is given or taken.
+fn idle(capacity: i64, earlier: &str) -> String {
+    format!("dreg {capacity} 0 0 7 {LIST_S} {earlier}{}", " 0 60000".repeat(3600))
 }
 
 /// A ramp, its second, and the power then.
@@ -88,15 +110,19 @@ fn answer(question: &str) -> String {
     Program::Desk.expected(question.as_bytes()).join(" ")
 }
 
+fn rates(earlier: &[i64], scores: &[i64]) -> Vec<i64> {
+    (1..=scores.len() as i64).map(|second| rolling(earlier, scores, second)).collect()
+}
+
 /// The first figure of the paper that this side's rules do not give.
 pub fn missed() -> Option<String> {
     let line = lines().into_iter().find(|(question, printed)| answer(question) != *printed);
     let ramp = RAMPS.into_iter().find(|(question, second, printed)| answer(question).split(' ').nth(*second) != Some(printed));
-    let rates: Vec<_> = (1..=SCORES.len()).map(|second| rolling(&SCORES, second)).collect();
     let missed = [
         line.map(|(question, _)| question),
         ramp.map(|(question, _, _)| question.to_string()),
-        (rates != ROLLING).then(|| "the rolling rates".to_string()),
+        (rates(&[], &SCORES) != ROLLING).then(|| "the rolling rates".to_string()),
+        (rates(&SCORES[..3], &SCORES[3..]) != ROLLING[3..]).then(|| "the rolling rates after three seconds".to_string()),
         (Program::Ledger.expected(FRAMES.as_bytes()) != VERDICTS).then(|| "the ledger's sample".to_string()),
         (Program::Ledger.expected(FEES.as_bytes()) != FEE_VERDICTS).then(|| "the two loss fees".to_string()),
         (Program::Desk.expected(PIPED_FEES.as_bytes()).join("\n") + "\n" != FEES).then(|| "the frames of the two loss fees".to_string()),

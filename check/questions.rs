@@ -170,16 +170,87 @@ fn scores(draw: &mut Draw) -> Vec<i64> {
     list
 }
 
+/// E and its scores.
+fn earlier_scores(draw: &mut Draw, count: i64) -> Vec<i64> {
+    let mut numbers = vec![count];
+    numbers.extend((0..count).map(|_| draw.fit(SCORE)));
+    numbers
+}
+
+/// Three of the hour before, or none.
+fn fit_earlier(draw: &mut Draw) -> Vec<i64> {
+    let count = draw.of(&[0, 3, 3]);
+    earlier_scores(draw, count)
+}
+
+/// As many as no hour takes, now and then with what is no score; or an E past what the form counts, and no score after it.
+fn wrong_earlier(draw: &mut Draw) -> Vec<i64> {
+    let count = draw.of(&[1, 2, 2, 4, 4, 99, 100, 101, -1, -3, 256, 259, (1 << 32) + 3, i64::MIN, i64::MAX]);
+    if !(0..=100).contains(&count) {
+        return vec![count];
+    }
+    let mut earlier = earlier_scores(draw, count);
+    if draw.one_in(2) {
+        set_earlier(draw, &mut earlier, score_edge);
+    }
+    earlier
+}
+
+/// One of the earlier scores drawn in another way: where there is none, one of three. After an E past what is counted none is set.
+fn set_earlier(draw: &mut Draw, earlier: &mut Vec<i64>, drawn: fn(&mut Draw) -> i64) {
+    if *earlier == [0] {
+        *earlier = earlier_scores(draw, 3);
+    }
+    if earlier.len() > 1 {
+        let at = 1 + draw.below(earlier.len() - 1);
+        earlier[at] = drawn(draw);
+    }
+}
+
+/// An edge of a score, or of a byte.
+fn score_edge(draw: &mut Draw) -> i64 {
+    let limits = draw.of(&[SCORE, BYTE]);
+    draw.of(&edges(limits))
+}
+
+/// No score.
+fn past_score(draw: &mut Draw) -> i64 {
+    draw.of(&[101, 101, 102, 255, 256, 356, -1, i64::MIN, i64::MAX])
+}
+
+fn ask_rate(draw: &mut Draw, text: &mut String, earlier: &[i64], list: &[i64]) {
+    ask(draw, text, "rate", &[earlier, list].concat());
+}
+
+/// An hour for every set of a wrong E, an earlier score and a score of its own past their limit.
+fn ask_rate_orders(draw: &mut Draw, text: &mut String) {
+    for set in 0..8 {
+        let mut earlier = if set & 1 == 1 { wrong_earlier(draw) } else { fit_earlier(draw) };
+        let mut list = scores(draw);
+        if set & 2 == 2 {
+            set_earlier(draw, &mut earlier, past_score);
+        }
+        if set & 4 == 4 {
+            list[draw.below(SECONDS)] = past_score(draw);
+        }
+        ask_rate(draw, text, &earlier, &list);
+    }
+}
+
 pub fn rate(draw: &mut Draw) -> String {
     let mut text = String::new();
     for _ in 0..30 {
         let mut list = scores(draw);
-        if draw.one_in(5) {
-            let at = draw.of(&[0, 1, 1800, SECONDS - 1]);
-            list[at] = draw.of(&edges(SCORE));
+        let mut earlier = fit_earlier(draw);
+        match draw.below(8) {
+            0 => list[draw.of(&[0, 1, 1800, SECONDS - 1])] = score_edge(draw),
+            1 => set_earlier(draw, &mut earlier, score_edge),
+            2 => earlier = wrong_earlier(draw),
+            _ => {}
         }
-        ask(draw, &mut text, "rate", &list);
+        ask_rate(draw, &mut text, &earlier, &list);
     }
+    ask_rate_orders(draw, &mut text);
     text
 }
 
@@ -354,17 +425,18 @@ pub fn energy(draw: &mut Draw) -> String {
 
 // ---- hours
 
-/// An hour's numbers as `dreg` and `edreg` take them: the head, N with its pairs, the readings.
+/// An hour's numbers as `dreg` and `edreg` take them: the head, N with its pairs, E with its scores, the readings.
 struct Asked {
     head: Vec<i64>,
     limits: Vec<Limits>,
     bands: Vec<i64>,
+    earlier: Vec<i64>,
     readings: Vec<i64>,
 }
 
 impl Asked {
     fn numbers(&self) -> Vec<i64> {
-        [&self.head[..], &self.bands[..], &self.readings[..]].concat()
+        [&self.head[..], &self.bands, &self.earlier, &self.readings].concat()
     }
 }
 
@@ -403,30 +475,30 @@ fn next_frequency(draw: &mut Draw, way: usize, last: i64) -> i64 {
     }
 }
 
-/// A percent output within the bounds, or in a dip up to so much outside them.
-fn percent(draw: &mut Draw, frequency: i64, dips: bool, depth: i64) -> i64 {
+/// A percent output within the bounds, or so much outside them.
+fn percent(draw: &mut Draw, frequency: i64, outside: Option<Limits>) -> i64 {
     let (upper, lower) = bounds(frequency);
-    match (dips, draw.below(4)) {
-        (false, 0) => upper,
-        (false, 1) => lower,
-        (false, _) => draw.between(lower, upper),
-        (true, 0 | 1) => upper + draw.between(0, depth),
-        (true, _) => lower - draw.between(0, depth),
+    match (outside, draw.below(4)) {
+        (None, 0) => upper,
+        (None, 1) => lower,
+        (None, _) => draw.between(lower, upper),
+        (Some(Limits(least, most)), 0 | 1) => upper + draw.between(least, most),
+        (Some(Limits(least, most)), _) => lower - draw.between(least, most),
     }
 }
 
-/// Readings that follow the curve but for dips of some depth.
-fn readings(draw: &mut Draw, capacity: i64, planned: &[i64]) -> Vec<i64> {
-    let depth = draw.of(&[0, 4, 9, 30, 130]);
+/// Readings that follow the curve but for dips of some depth; so many first seconds stumble deeper.
+fn readings(draw: &mut Draw, capacity: i64, planned: &[i64], depth: i64, stumble: usize) -> Vec<i64> {
     let way = draw.below(5);
     let (mut now, mut dip, mut calm) = (60_000, 0, draw.below(40));
     let mut list = Vec::new();
-    for transfer in planned {
+    for (second, transfer) in planned.iter().enumerate() {
         if dip == 0 && calm == 0 {
             (dip, calm) = (dip_length(draw), draw.below(60));
         }
         now = next_frequency(draw, way, now);
-        let output = percent(draw, now, dip > 0, depth);
+        let outside = if second < stumble { Some(Limits(60, 130)) } else { (dip > 0).then_some(Limits(0, depth)) };
+        let output = percent(draw, now, outside);
         list.extend([power_at(draw, output, *transfer, capacity), now]);
         (dip, calm) = if dip > 0 { (dip - 1, calm) } else { (0, calm - 1) };
     }
@@ -446,19 +518,24 @@ fn fit_hour(draw: &mut Draw, shifts: bool) -> Asked {
         head[0] = draw.between(100, 5000);
     }
     let bands = counted(&fit_bands(draw));
-    let readings = readings(draw, head[0], &planned(&head));
-    Asked { head, limits, bands, readings }
+    let earlier = fit_earlier(draw);
+    let depth = draw.of(&[0, 4, 9, 30, 130]);
+    let stumble = draw.of(&[0, 0, 1, 3]);
+    let readings = readings(draw, head[0], &planned(&head), depth, stumble);
+    Asked { head, limits, bands, earlier, readings }
 }
 
 /// One to four numbers of the hour set to an edge.
 fn spoil(draw: &mut Draw, hour: &mut Asked) {
     for _ in 0..=draw.below(4) {
-        match draw.below(4) {
+        match draw.below(6) {
             0 | 1 => {
                 let at = draw.below(hour.head.len());
                 hour.head[at] = draw.of(&edges(hour.limits[at]));
             }
             2 => hour.bands = if draw.one_in(4) { uncounted(draw) } else { counted_any(draw) },
+            3 => hour.earlier = wrong_earlier(draw),
+            4 => set_earlier(draw, &mut hour.earlier, score_edge),
             _ => spoil_reading(draw, hour),
         }
     }
@@ -519,37 +596,84 @@ pub fn edreg(draw: &mut Draw) -> String {
     hours(draw, true)
 }
 
+/// Scores, and an hour, for each place of the one high earlier score, and for none, by how many first seconds stumble.
+pub fn first_windows(draw: &mut Draw) -> String {
+    let mut text = String::new();
+    for stumble in 1..=4 {
+        for high in 0..=3 {
+            let low = draw.of(&[0, 5, 10]);
+            let mut earlier = [3, draw.between(0, low), draw.between(0, low), draw.between(0, low)];
+            if high > 0 {
+                earlier[high] = draw.of(&[SCORE.1, 90, 50, 41]);
+            }
+            let second = |at: usize, draw: &mut Draw| if at < stumble { draw.between(0, low) } else { draw.between(90, SCORE.1) };
+            let list: Vec<_> = (0..SECONDS).map(|at| second(at, draw)).collect();
+            ask_rate(draw, &mut text, &earlier, &list);
+            ask_stumble(draw, &mut text, &earlier, stumble);
+        }
+    }
+    text
+}
+
+/// An hour of each kind that is calm but for its first seconds.
+fn ask_stumble(draw: &mut Draw, text: &mut String, earlier: &[i64], stumble: usize) {
+    for shifts in [false, true] {
+        let mut hour = fit_hour(draw, shifts);
+        hour.head[0] = draw.between(1000, 50_000);
+        hour.earlier = earlier.to_vec();
+        hour.readings = readings(draw, hour.head[0], &planned(&hour.head), 4, stumble);
+        ask(draw, text, hour_words(shifts)[0], &hour.numbers());
+    }
+}
+
 /// The edges of an hour's number that matter most: in text an hour is long.
 fn ends(Limits(low, high): Limits) -> [i64; 6] {
     [low - 1, low, high, high + 1, i64::MIN, i64::MAX]
 }
 
-/// Places of an hour's numbers, with their limits: the head, the first and the last band, some readings.
+/// Places of an hour's numbers, with their limits: the head, the first and the last band, three earlier scores, some readings.
 fn places(hour: &Asked) -> Vec<(usize, Limits)> {
     let bands_at = hour.head.len() + 1;
-    let readings_at = hour.head.len() + hour.bands.len();
+    let earlier_at = hour.head.len() + hour.bands.len();
+    let readings_at = earlier_at + hour.earlier.len();
     let mut places: Vec<_> = hour.limits.iter().copied().enumerate().collect();
-    places.extend([(bands_at, THRESHOLD), (bands_at + 1, FACTOR), (readings_at - 2, THRESHOLD), (readings_at - 1, FACTOR)]);
+    places.extend([(bands_at, THRESHOLD), (bands_at + 1, FACTOR), (earlier_at - 2, THRESHOLD), (earlier_at - 1, FACTOR)]);
+    places.extend([(earlier_at + 1, SCORE), (earlier_at + 2, BYTE), (earlier_at + 3, SCORE)]);
     for second in [0, 1, 1799, SECONDS - 1] {
         places.extend([(readings_at + 2 * second, POWER), (readings_at + 2 * second + 1, FREQUENCY)]);
     }
     places
 }
 
-/// Every limit of an hour's numbers, one past it, and the 64-bit ends, one at a time: fields, scores and frame.
+/// Asks for all three.
+fn ask_all(draw: &mut Draw, text: &mut String, shifts: bool, numbers: &[i64]) {
+    let [fields, scores, _] = hour_words(shifts);
+    ask(draw, text, fields, numbers);
+    ask(draw, text, scores, numbers);
+    ask_frame(draw, text, shifts, [1, 0], numbers);
+}
+
+/// Every limit of an hour's numbers, one past it, and the 64-bit ends, one at a time; then every E that matters.
 fn hour_limits(draw: &mut Draw, shifts: bool) -> String {
     let mut text = String::new();
-    let fit = fit_hour(draw, shifts);
-    let [fields, scores, _] = hour_words(shifts);
+    let mut fit = fit_hour(draw, shifts);
+    fit.earlier = earlier_scores(draw, 3);
     for (at, limits) in places(&fit) {
         for end in ends(limits) {
             let mut numbers = fit.numbers();
             numbers[at] = end;
-            ask(draw, &mut text, fields, &numbers);
-            ask(draw, &mut text, scores, &numbers);
-            ask_frame(draw, &mut text, shifts, [1, 0], &numbers);
+            ask_all(draw, &mut text, shifts, &numbers);
         }
     }
+    for count in [0, 1, 2, 4, 100] {
+        fit.earlier = earlier_scores(draw, count);
+        ask_all(draw, &mut text, shifts, &fit.numbers());
+    }
+    for count in [-1, 101, 256, 259, i64::MIN, i64::MAX] {
+        fit.earlier = vec![count];
+        ask_all(draw, &mut text, shifts, &fit.numbers());
+    }
+    fit.earlier = vec![0];
     for place in [[-1, 0], [0, 0], [255, 255], [256, 0], [0, -1], [0, 256], [i64::MIN, 0], [0, i64::MAX]] {
         ask_frame(draw, &mut text, shifts, place, &fit.numbers());
     }
@@ -573,22 +697,34 @@ fn past(draw: &mut Draw, Limits(low, high): Limits) -> i64 {
 fn refuse(draw: &mut Draw, hour: &mut Asked, refusal: u8) {
     let prices: &[usize] = if hour.head.len() > 3 { &[1, 2, 3, 4] } else { &[1, 2] };
     match refusal {
+        1 => hour.earlier = wrong_earlier(draw),
         2 => hour.head[0] = past(draw, CAPACITY),
         3 => hour.head[draw.of(prices)] = past(draw, PRICE),
         5 => hour.bands = draw.of(&[&[0][..], &[101], &[1, 1, 0], &[2, 5, 0, 5, 0], &[1, 0, 11]]).to_vec(),
         10 => hour.head[draw.of(&[5, 6, 7, 8, 9])] = past(draw, TARGET),
-        _ => {
-            let second = draw.below(SECONDS);
-            let (at, limits) = draw.of(&[(0, POWER), (1, FREQUENCY)]);
-            hour.readings[2 * second + at] = past(draw, limits);
-        }
+        _ => refuse_reading(draw, hour),
+    }
+}
+
+/// An earlier score, a reading, or one of each past its limit; a reading alone where no earlier score is counted.
+fn refuse_reading(draw: &mut Draw, hour: &mut Asked) {
+    let counted = (0..=100).contains(&hour.earlier[0]);
+    let both = draw.one_in(4);
+    let earlier = counted && (both || draw.one_in(2));
+    if earlier {
+        set_earlier(draw, &mut hour.earlier, past_score);
+    }
+    if both || !earlier {
+        let second = draw.below(SECONDS);
+        let (at, limits) = draw.of(&[(0, POWER), (1, FREQUENCY)]);
+        hour.readings[2 * second + at] = past(draw, limits);
     }
 }
 
 /// An hour for every set of its refusals: the first in their order is the answer.
 pub fn hour_orders(draw: &mut Draw) -> String {
     let mut text = String::new();
-    for (shifts, refusals) in [(false, &[2, 3, 5, 4][..]), (true, &[2, 3, 5, 10, 4])] {
+    for (shifts, refusals) in [(false, &[1, 2, 3, 5, 4][..]), (true, &[1, 2, 3, 5, 10, 4])] {
         for set in 1..1 << refusals.len() {
             let mut hour = fit_hour(draw, shifts);
             for (_, refusal) in refusals.iter().enumerate().filter(|(at, _)| set >> at & 1 == 1) {
@@ -785,10 +921,25 @@ fn ask_count(draw: &mut Draw, text: &mut String, word: &str, count: usize) {
     text.push('\n');
 }
 
+/// An E with as many scores as it counts, none of them, one short and one over, before all that else belongs to the question.
+fn earlier_counts(draw: &mut Draw, text: &mut String, count: i64) {
+    let shifts = draw.one_in(2);
+    let mut hour = fit_hour(draw, shifts);
+    let right = if (0..=100).contains(&count) { count as usize } else { 0 };
+    for came in [right, 0, right.saturating_sub(1), right + 1] {
+        hour.earlier = vec![100; 1 + came];
+        hour.earlier[0] = count;
+        ask_hour(draw, text, shifts, &hour.numbers());
+        ask_rate(draw, text, &hour.earlier, &[100; SECONDS]);
+    }
+    ask(draw, text, hour_words(shifts)[0], &[&hour.head[..], &hour.bands, &hour.earlier[..1]].concat());
+    ask(draw, text, "rate", &[count]);
+}
+
 /// Questions whose counts are right, one short, one over, or past the 8,192 that a question holds.
 pub fn counts(draw: &mut Draw) -> String {
     let mut text = String::new();
-    for (word, count) in [("rate", 3600), ("energy", 3606), ("ramp", 2), ("dreg", 4), ("edreg", 11), ("bands", 8192), ("factor", 8192)] {
+    for (word, count) in [("energy", 3606), ("ramp", 2), ("dreg", 4), ("edreg", 11), ("bands", 8192), ("factor", 8192)] {
         for near in count - 1..=count + 2 {
             ask_count(draw, &mut text, word, near);
         }
@@ -801,6 +952,9 @@ pub fn counts(draw: &mut Draw) -> String {
         }
         ask(draw, &mut text, word, &[place, &numbers, &[0; 1][..]].concat());
         ask(draw, &mut text, word, &[place, &numbers, &[0; 1000][..]].concat());
+    }
+    for count in [0, 1, 2, 3, 4, 100, 101, -1, i64::MIN, i64::MAX] {
+        earlier_counts(draw, &mut text, count);
     }
     for (word, after) in [("rate", "12x 5\n"), ("bands", "12x\n"), ("nothing", "12x\n"), ("kilowatts", "")] {
         ask_count(draw, &mut text, word, 8193);

@@ -1,5 +1,5 @@
-//! Document 01's rules for an hour, a ramp and the loss fee, from the paper alone and straight from its definitions: exact fractions in
-//! 128 bits, no tables, windows as the paper words them. Every function takes any 64-bit numbers.
+//! Document 01's rules for an hour, a ramp and the loss fee, with document 02's #102, from the papers alone and straight from their
+//! definitions: exact fractions in 128 bits, no tables, windows as the papers word them. Every function takes any 64-bit numbers.
 
 use crate::faults::{wrong, Fault};
 use std::ops::{Add, Mul};
@@ -46,12 +46,14 @@ pub fn first_refused(order: &[u8], holding: &[(u8, bool)]) -> Answer<()> {
     order.iter().find(holds).map_or(Ok(()), |number| Err(*number))
 }
 
-/// "Hour, and calls for a part of its work: 1, 2, 3, 5, 10, 4." A run's length, 1, is desk's to count.
+/// "Hour, and calls for a part of its work: 1, 2, 3, 5, 10, 4." A run's length, 1, is desk's to count, but for the earlier scores.
 fn hour_order() -> &'static [u8] {
     if wrong(Fault::PriceBeforeCapacity) {
-        &[3, 2, 5, 10, 4]
+        &[1, 3, 2, 5, 10, 4]
+    } else if wrong(Fault::CountAfterCapacity) {
+        &[2, 1, 3, 5, 10, 4]
     } else {
-        &[2, 3, 5, 10, 4]
+        &[1, 2, 3, 5, 10, 4]
     }
 }
 
@@ -172,20 +174,51 @@ pub fn score(power: i64, transfer: i64, capacity: i64, frequency: i64) -> Answer
     Ok(score_of(percent_output(power, transfer, capacity), frequency))
 }
 
-/// "The largest score of seconds t-3 to t. The windows of seconds 1, 2 and 3 hold only this hour's seconds."
-pub fn rolling(scores: &[i64], t: usize) -> i64 {
-    let back = if wrong(Fault::WindowOfThree) { 2 } else { 3 };
-    let first = t.saturating_sub(back).max(1);
-    (first..=t).map(|second| scores[second - 1]).max().expect("a window holds its second")
+/// The scores before an hour's first second (#102), the oldest first: how many there are said to be, and those that came.
+pub struct Earlier {
+    pub count: i64,
+    pub scores: Vec<i64>,
 }
 
-fn rate_of(scores: &[i64]) -> i64 {
-    (1..=scores.len()).map(|t| rolling(scores, t)).min().expect("an hour has seconds")
+impl Earlier {
+    /// "The hour takes these 3 earlier scores or 0."
+    fn counts(&self) -> bool {
+        self.count == 3 || self.count == 0 || (wrong(Fault::TwoTaken) && self.count == 2)
+    }
 }
 
-pub fn rate(scores: &[i64]) -> Answer<i64> {
-    first_refused(hour_order(), &[(4, !SCORE.hold_all(scores))])?;
-    Ok(rate_of(scores))
+/// The score of a second, where one is known: second 1 is the hour's first, second 0 the last of the hour before.
+fn known(earlier: &[i64], scores: &[i64], second: i64) -> Option<i64> {
+    if second > 0 {
+        return scores.get(second as usize - 1).copied();
+    }
+    let back = second.unsigned_abs() as usize;
+    match back {
+        2 if wrong(Fault::OldestDropped) => None,
+        _ if wrong(Fault::EarlierTurned) => earlier.get(back).copied(),
+        _ => earlier.iter().rev().nth(back).copied(),
+    }
+}
+
+/// "The largest score of seconds t-3 to t": those of them that are known. With no earlier score "the windows of seconds 1, 2 and 3 hold
+/// only this hour's seconds".
+pub fn rolling(earlier: &[i64], scores: &[i64], t: i64) -> i64 {
+    let first = match t {
+        4 if wrong(Fault::FourthSecondToo) => 0,
+        _ if wrong(Fault::WindowOfThree) => t - 2,
+        _ => t - 3,
+    };
+    (first..=t).filter_map(|second| known(earlier, scores, second)).max().expect("a window holds its second")
+}
+
+fn rate_of(earlier: &[i64], scores: &[i64]) -> i64 {
+    (1..=scores.len() as i64).map(|t| rolling(earlier, scores, t)).min().expect("an hour has seconds")
+}
+
+pub fn rate(earlier: &Earlier, scores: &[i64]) -> Answer<i64> {
+    let fit = SCORE.hold_all(&earlier.scores) && SCORE.hold_all(scores);
+    first_refused(hour_order(), &[(1, !earlier.counts()), (4, !fit)])?;
+    Ok(rate_of(&earlier.scores, scores))
 }
 
 // ---- "The transfer ramp"
@@ -316,6 +349,7 @@ pub struct Hour {
     pub performance: i64,
     pub shift: Option<Shift>,
     pub bands: Vec<Band>,
+    pub earlier: Earlier,
     pub powers: Vec<i64>,
     pub frequencies: Vec<i64>,
 }
@@ -352,14 +386,19 @@ fn hour_refused(hour: &Hour) -> Answer<()> {
     let shift_prices = shift.iter().all(|shift| PRICE.hold_all(&[shift.discharge, shift.charge]));
     let shift_targets = shift.iter().all(|shift| TARGET.hold(shift.before) && TARGET.hold_all(&shift.targets));
     let readings = POWER.hold_all(&hour.powers) && FREQUENCY.hold_all(&hour.frequencies);
+    let earlier = SCORE.hold_all(&hour.earlier.scores);
+    if wrong(Fault::EarlierBeforeCapacity) && hour.earlier.counts() && !earlier {
+        return Err(4);
+    }
     first_refused(
         hour_order(),
         &[
+            (1, !hour.earlier.counts()),
             (2, !CAPACITY.hold(hour.capacity)),
             (3, !(award && shift_prices)),
             (5, !bands_fit(&hour.bands)),
             (10, !shift_targets),
-            (4, !readings),
+            (4, !(readings && earlier)),
         ],
     )
 }
@@ -367,7 +406,7 @@ fn hour_refused(hour: &Hour) -> Answer<()> {
 pub fn settle(hour: &Hour) -> Answer<Settled> {
     hour_refused(hour)?;
     let scores = scores_of(hour);
-    let rate = rate_of(&scores);
+    let rate = rate_of(&hour.earlier.scores, &scores);
     let factor = factor_of(&hour.bands, rate);
     let capacity_fee = fee_of(hour.clearing, hour.capacity);
     let performance_fee = fee_of(hour.performance, hour.capacity);

@@ -41,7 +41,9 @@ bands = [n for pair in model.LIST_S for n in pair]
 terms = (CAPACITY, CLEARING, PERFORMANCE, 0, 0, [0] * 5)
 settled, scores = model.hour(powers, frequencies, [0] * 3600, terms, model.THRESHOLDS, model.FACTORS)
 columns = "".join(f"{p} {f}\n" for p, f in zip(powers, frequencies))
-hour = f"{words(CAPACITY, CLEARING, PERFORMANCE)}\n{len(model.LIST_S)} {words(*bands)}\n{columns}"
+award = words(CAPACITY, CLEARING, PERFORMANCE)
+list_s = words(len(model.LIST_S), *bands)
+hour = f"{award}\n{list_s}\n0\n{columns}"
 
 # ---- the same hour moved by a transfer plan, so that its scores are the same
 
@@ -51,11 +53,33 @@ moved_terms = (CAPACITY, CLEARING, PERFORMANCE, DISCHARGE, CHARGE, TARGETS)
 moved_settled, moved_scores = model.hour(moved, frequencies, [0] * 3600, moved_terms, model.THRESHOLDS, model.FACTORS)
 assert moved_scores == scores
 moved_columns = "".join(f"{p} {f}\n" for p, f in zip(moved, frequencies))
-moved_hour = f"{words(CAPACITY, CLEARING, PERFORMANCE, DISCHARGE, CHARGE, *TARGETS)}\n{len(model.LIST_S)} {words(*bands)}\n{moved_columns}"
+moved_hour = f"{award} {words(DISCHARGE, CHARGE, *TARGETS)}\n{list_s}\n0\n{moved_columns}"
+
+# ---- an hour at 60 Hz whose first second scores 0, by itself and after an hour
+
+
+def stumbling(head, terms, earlier):
+    """Its numbers, and its settlement."""
+    settled, _ = model.hour([100000] + [0] * 3599, [60000] * 3600, [0] * 3600, terms, model.THRESHOLDS, model.FACTORS, earlier)
+    return f"{head} {list_s} {words(len(earlier), *earlier)} 100000 60000" + " 0 60000" * 3599, settled
+
+
+alone, alone_settled = stumbling(award, terms, [])
+after, after_settled = stumbling(award, terms, [94, 0, 0])
+small_terms = (CAPACITY, CLEARING, PERFORMANCE, DISCHARGE, CHARGE, [9] * 5)
+small_after, small_settled = stumbling(f"{award} {words(DISCHARGE, CHARGE, *[9] * 5)}", small_terms, [94, 0, 0])
+assert (alone_settled[1], after_settled[1], small_settled[1]) == (0, 94, 94)
+
+
+def rate(earlier, zeros):
+    """The question for an hour of 100 with so many zeros first, and its answer."""
+    scores = [0] * zeros + [100] * (3600 - zeros)
+    return "rate " + words(len(earlier), *earlier, *scores), words(0, min(model.rolling(scores, earlier)))
+
 
 with open(os.path.join(ROOT, "samples/hour"), "w") as out:
-    out.write("# A dReg hour of 10,000 kW at 440 and 350 dollars a MW, with list S; then a line a second: the power of second t in kW and the frequency of\n")
-    out.write("# second t-1 in mHz.\n")
+    out.write("# A dReg hour of 10,000 kW at 440 and 350 dollars a MW, with list S; a 0, for no scores of the hour before (or 3 and its last three); then a\n")
+    out.write("# line a second: the power of second t in kW and the frequency of second t-1 in mHz.\n")
     out.write("dreg " + hour)
 with open(os.path.join(ROOT, "samples/hour.answers"), "w") as out:
     out.write(words(*settled) + "\n")
@@ -69,7 +93,16 @@ asked = [
     ("score 5100 5000 10000 60000", words(0, model.score(5100, 5000, 10000, 60000))),
     ("ramp 0 5000", words(0, *(model.planned(0, 5000, n) for n in range(1, 901)))),
     ("ramp 0 100001", "10"),
-    ("rate " + "100 " * 3596 + "94,94,94,94", words(0, 94)),
+    ("rate 0 " + "100 " * 3596 + "94,94,94,94", words(0, 94)),
+    rate([], 1),
+    rate([100, 100, 100], 1),
+    rate([90, 0, 0], 1),
+    rate([90, 0, 0], 2),
+    # other than 0 and 3 earlier scores are 1, also where they are not counted; what is no score is 4
+    ("rate 2 100 100 " + "0 " * 3600, words(1, 0)),
+    ("rate 101 " + "0 " * 3600, words(1, 0)),
+    ("rate -1 " + "0 " * 3600, words(1, 0)),
+    ("rate 3 100 256 100 " + "0 " * 3600, words(4, 0)),
     ("bands 95 10 0 -10", "0"),
     ("bands", "5"),
     ("factor 94 " + words(*bands), words(0, 8)),
@@ -81,11 +114,18 @@ asked = [
     ("edreg " + moved_hour, words(*moved_settled)),
     ("dreg_scores " + hour, words(0, *scores)),
     ("edreg_scores " + moved_hour, words(0, *scores)),
+    ("dreg " + alone, words(*alone_settled)),
+    ("dreg " + after, words(*after_settled)),
+    ("edreg " + small_after, words(*small_settled)),
+    # a wrong number of earlier scores is refused first, an earlier score above 100 last
+    ("dreg 0 0 0 1 0 0 3 101 0 0 " + "0 0 " * 3600, words(2, *[0] * 7)),
+    ("dreg 1 0 0 1 0 0 3 101 0 0 " + "0 60000 " * 3600, words(4, *[0] * 7)),
+    ("edreg_scores " + "0 " * 10 + "0 2 101 0 " + "0 0 " * 3600, "1"),
     ("frame 0 31 0 0", frame(0, 31, 0, 0)),
     ("dreg_frame 12 14 " + hour, frame(1, 12, 14, settled[7])),
     ("edreg_frame 12 15 " + moved_hour, frame(1, 12, 15, moved_settled[7])),
     # a capacity of 0 is refused before the day is looked at
-    ("edreg_frame 300 0 " + "0 " * 10 + "0 " + "0 " * 7200, "2"),
+    ("edreg_frame 300 0 " + "0 " * 10 + "0 0 " + "0 " * 7200, "2"),
     ("frame 6 0 0 100800", frame(6, 0, 0, 100800)),
     ("loss_frames 120000 84000 22800 40000", frame(4, 0, 0, 151200) + "\n" + frame(6, 0, 0, 100800)),
     ("loss_frames 120000 96000 22800 40000", frame(4, 0, 0, 100800) + "\n" + frame(6, 0, 0, 0)),
@@ -97,6 +137,7 @@ asked = [
 ]
 faults = [
     ("curve", "103 too few numbers"),
+    ("rate 3 100 100", "103 too few numbers"),
     ("curve 1 2", "104 too many numbers"),
     ("curves 59920", "101 not a question"),
     ("fee 9223372036854775808 1", "102 a number too large for 64 bits"),

@@ -335,17 +335,22 @@ def second(power, transfer, capacity, f):
     return s
 
 
-def rolling(scores):
-    return [max(scores[max(0, i - 3) : i + 1]) for i in range(len(scores))]
+def rolling(scores, earlier=[]):
+    """The rolling rates of an hour by its scores and, of the hour before, the last ones or none (#102)."""
+    run = earlier + scores
+    return [max(run[max(0, i - 3) : i + 1]) for i in range(len(earlier), len(run))]
 
 
-def rate(label, scores):
-    if len(scores) != 3600:
-        line(label, 1, 0)
-    elif max(scores) > 100:
-        line(label, 4, 0)
+def rate(label, scores, earlier=[]):
+    k, r = 0, 0
+    if len(scores) != 3600 or len(earlier) not in (0, 3):
+        k = 1
+    elif max(earlier + scores) > 100:
+        k = 4
     else:
-        line(label, 0, min(rolling(scores)))
+        r = min(rolling(scores, earlier))
+    line(label, k, r)
+    return k, r
 
 
 line("document 001, example 2: a second's score")
@@ -383,6 +388,7 @@ for reading in [
 line("document 001, table 2: rolling rates and the hourly rate")
 ELEVEN = [100, 90, 50, 90, 90, 70, 95, 100, 100, 60, 100]
 assert rolling(ELEVEN) == [100, 100, 100, 100, 90, 90, 95, 100, 100, 100, 100]
+assert rolling(ELEVEN[3:], ELEVEN[:3]) == rolling(ELEVEN)[3:]
 rate("table 2 over and over", [ELEVEN[i % 11] for i in range(3600)])
 
 
@@ -405,6 +411,28 @@ for label, start, stop, other in [
 rate("3,599 scores", [100] * 3599)
 rate("3,601 scores of 101", [101] * 3601)
 rate("no score", [])
+
+line("document 02, #102: the three seconds before the hour")
+for label, earlier, zeros, answer in [
+    ("100 100 100, a zero", [100, 100, 100], 1, (0, 100)),
+    ("90 0 0, a zero", [90, 0, 0], 1, (0, 90)),
+    ("90 0 0, two zeros", [90, 0, 0], 2, (0, 0)),
+    ("0 90 0, two zeros", [0, 90, 0], 2, (0, 90)),
+    ("0 90 0, three zeros", [0, 90, 0], 3, (0, 0)),
+    ("0 0 90, three zeros", [0, 0, 90], 3, (0, 90)),
+    ("0 0 90, four zeros", [0, 0, 90], 4, (0, 0)),
+    ("0 0 0, no zero", [0, 0, 0], 0, (0, 100)),
+    ("one earlier score", [100], 1, (1, 0)),
+    ("two earlier scores", [100, 100], 1, (1, 0)),
+    ("four earlier scores", [100] * 4, 1, (1, 0)),
+    ("101 first", [101, 0, 0], 1, (4, 0)),
+    ("101 last", [100, 100, 101], 0, (4, 0)),
+    ("two, one of them 101", [101, 100], 0, (1, 0)),
+]:
+    assert rate(label, but(100, 0, zeros, 0), earlier) == answer
+rate("three, and 3,599 scores", [100] * 3599, [100] * 3)
+rate("three, and a score of 101", [100] * 3599 + [101], [100] * 3)
+rate("two, and a score of 101", [100] * 3599 + [101], [100] * 2)
 
 
 # ---- the quality bands

@@ -244,9 +244,9 @@ total(m, 0, -8559)
 # ---- whole hours
 
 
-def hour(powers, frequencies, scores, terms, thresholds, factors):
+def hour(powers, frequencies, scores, terms, thresholds, factors, earlier=[]):
     capacity, clearing, performance, discharge, charge, targets = terms
-    if not len(powers) == len(frequencies) == len(scores) == 3600:
+    if not len(powers) == len(frequencies) == len(scores) == 3600 or len(earlier) not in (0, 3):
         return [1] + [0] * 7, scores
     if not 1 <= capacity <= 100000:
         return [2] + [0] * 7, scores
@@ -256,11 +256,11 @@ def hour(powers, frequencies, scores, terms, thresholds, factors):
         return [5] + [0] * 7, scores
     if max(map(abs, targets)) > 100000:
         return [10] + [0] * 7, scores
-    if max(map(abs, powers)) > 200000 or min(frequencies) < 55000 or max(frequencies) > 65000:
+    if max(map(abs, powers)) > 200000 or min(frequencies) < 55000 or max(frequencies) > 65000 or max(earlier, default=0) > 100:
         return [4] + [0] * 7, scores
     plan = transfers(targets)
     scores = [score(p, t, capacity, f) for p, t, f in zip(powers, plan, frequencies)]
-    r = min(rolling(scores))
+    r = min(rolling(scores, earlier))
     tenths = factor(thresholds, factors, r)[1]
     first, second = fee(clearing, capacity)[1], fee(performance, capacity)[1]
     part = quality(first, second, tenths)[1]
@@ -275,14 +275,14 @@ def terms_of(targets):
     return 10000, 43000, 35000, 200000, 50000, targets
 
 
-def work(label, powers, frequencies, terms, thresholds=THRESHOLDS, factors=FACTORS, places=3600):
-    s, scores = hour(powers, frequencies, [7] * places, terms, thresholds, factors)
+def work(label, powers, frequencies, terms, thresholds=THRESHOLDS, factors=FACTORS, places=3600, earlier=[]):
+    s, scores = hour(powers, frequencies, [7] * places, terms, thresholds, factors, earlier)
     line(label, *s, mixed(scores))
     return s
 
 
-def dreg(label, powers, frequencies):
-    return work(label, powers, frequencies, (10000, 43000, 35000, 0, 0, [0] * 5))
+def dreg(label, powers, frequencies, capacity=10000, earlier=[]):
+    return work(label, powers, frequencies, (capacity, 43000, 35000, 0, 0, [0] * 5), earlier=earlier)
 
 
 def level(label, power, f):
@@ -378,8 +378,8 @@ attempt("neither", 1, short, short, 10000, 50000, 10, 0)
 line("joint calls")
 
 
-def join(label, k, powers, target, m, d, h):
-    s, _ = hour(powers, still, zeros, terms_of([0, 0, 0, 0, target]), THRESHOLDS, FACTORS)
+def join(label, k, powers, target, m, d, h, earlier=[]):
+    s, _ = hour(powers, still, zeros, terms_of([0, 0, 0, 0, target]), THRESHOLDS, FACTORS, earlier)
     if s[0] == 0:
         s[0], m = m.post(d, h, s[7])
         s = s if s[0] == 0 else [s[0]] + [0] * 7
@@ -404,3 +404,60 @@ join("closed, day 0", 9, some, 0, m, 0, 12)
 join("no month", 22, some, 0, opened(27)[1], 3, 12)
 join("a ledger that no run of calls hands back", 22, some, 0, Ledger(30, forged=True), 3, 12)
 join("closed, a power below", 4, [-200001] + some[1:], 0, m, 3, 12)
+
+
+# ---- the three seconds before the hour
+
+line("document 02, #102: hours after an hour")
+AFTER = [
+    ("none, a zero", [], 1, 0),
+    ("100 100 100, a zero", [100, 100, 100], 1, 100),
+    ("90 0 0, a zero", [90, 0, 0], 1, 90),
+    ("90 0 0, two zeros", [90, 0, 0], 2, 0),
+    ("0 90 0, two zeros", [0, 90, 0], 2, 90),
+    ("0 0 90, three zeros", [0, 0, 90], 3, 90),
+    ("0 0 90, four zeros", [0, 0, 90], 4, 0),
+]
+for label, earlier, count, r in AFTER:
+    assert dreg(label, but(0, 0, count, 100000), still, earlier=earlier)[1] == r
+line("E-dReg hours after an hour")
+for label, earlier, count, r in AFTER:
+    powers = [100000] * count + transfers(discharging)[count:]
+    assert work(label, powers, still, terms_of(discharging), earlier=earlier)[1] == r
+
+line("refused earlier scores: 1 first, 4 last")
+for label, k, capacity, last, earlier in [
+    ("one", 1, 10000, 0, [100]),
+    ("two", 1, 10000, 0, [100, 100]),
+    ("four", 1, 10000, 0, [100] * 4),
+    ("two, one of them 101", 1, 10000, 0, [100, 101]),
+    ("two, and capacity 0", 1, 0, 0, [100, 100]),
+    ("101 first", 4, 10000, 0, [101, 100, 100]),
+    ("101 last", 4, 10000, 0, [100, 100, 101]),
+    ("255, and a power above", 4, 10000, 200001, [100, 255, 100]),
+    ("101, and capacity 0", 2, 0, 0, [101, 100, 100]),
+    ("100 100 100, and a power above", 4, 10000, 200001, [100] * 3),
+]:
+    powers = zeros[1:] + [last]
+    assert dreg(label, powers, still, capacity, earlier)[0] == k
+    assert work(label, powers, still, (capacity, 43000, 35000, 200000, 50000, [0] * 5), earlier=earlier)[0] == k
+
+line("two hours, one after the other")
+first = zeros[3:] + [100000, 1900, 100000]
+_, scores = hour(first, still, zeros, terms_of([0] * 5), THRESHOLDS, FACTORS)
+assert scores[3596:] == [100, 0, 90, 0]
+dreg("the first", first, still)
+second = but(0, 0, 2, 100000)
+assert dreg("the second", second, still, earlier=scores[3597:])[1] == 90
+assert min(rolling(scores + [0, 0] + [100] * 3598)[3600:]) == 90
+assert dreg("the second, by itself", second, still)[1] == 0
+
+line("joint calls after an hour")
+_, m = opened(30)
+some = but(0, 0, 1, 100000)
+m = join("none, a zero", 0, some, 0, m, 3, 10)
+m = join("100 100 100, a zero", 0, some, 0, m, 3, 11, [100] * 3)
+m = join("two", 1, some, 0, m, 3, 12, [100] * 2)
+m = join("101, place filled", 4, some, 0, m, 3, 10, [100, 101, 100])
+m = join("101, a target above", 10, some, 100001, m, 3, 12, [101, 100, 100])
+join("100 100 100, place filled", 7, some, 0, m, 3, 10, [100] * 3)

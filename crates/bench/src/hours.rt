@@ -1,4 +1,5 @@
-// The hours, one after the other. Before each, one power is drawn anew, so that no hour is the one before.
+// The hours, one after the other. Before each, one power is drawn anew, so that no hour is the one before; its first
+// windows look back into the last scores that the hour before left, and before the first hour into zeros.
 use crate::chance;
 use crate::readings;
 use crate::sums;
@@ -85,8 +86,29 @@ fn with_hour(
     shift: Shift,
     scores: &mut [u8],
 ) -> u64 {
-    let s = settled(shifting, powers, frequencies, terms, shift, scores);
+    let earlier = last_three(scores);
+    let s = settled(
+        shifting,
+        powers,
+        frequencies,
+        terms,
+        shift,
+        &earlier,
+        scores,
+    );
     sums::with_settlement(sum, s)
+}
+
+// The last three scores, and zeros where there are fewer.
+fn last_three(scores: &[u8]) -> [u8; 3] {
+    let n = scores.len();
+    if n < 3 {
+        return [0; 3];
+    }
+    let oldest = scores[n - 3];
+    let middle = scores[n - 2];
+    let newest = scores[n - 1];
+    [oldest, middle, newest]
 }
 
 fn settled(
@@ -95,6 +117,7 @@ fn settled(
     frequencies: &[i64],
     terms: Terms,
     shift: Shift,
+    earlier: &[u8],
     scores: &mut [u8],
 ) -> Settlement {
     if shifting {
@@ -105,10 +128,19 @@ fn settled(
             shift,
             &THRESHOLDS,
             &FACTORS,
+            earlier,
             scores,
         );
     }
-    hour::dreg_hour(powers, frequencies, terms, &THRESHOLDS, &FACTORS, scores)
+    hour::dreg_hour(
+        powers,
+        frequencies,
+        terms,
+        &THRESHOLDS,
+        &FACTORS,
+        earlier,
+        scores,
+    )
 }
 
 // Prices are hundredths of a dollar.

@@ -24,6 +24,7 @@ fn main() {
     score_cases::seconds();
     score_cases::limits();
     score_cases::rates();
+    score_cases::earlier_rates();
     bands_cases::rates();
     bands_cases::lists();
     records_cases::records();

@@ -50,6 +50,20 @@ pub(crate) fn rates() {
     lengths();
 }
 
+// Zeros in the first seconds: the earlier scores decide.
+pub(crate) fn earlier_rates() {
+    text::heading(b"document 02, #102: the three seconds before the hour");
+    zeros(b"100 100 100, a zero", &[100, 100, 100], 1);
+    zeros(b"90 0 0, a zero", &[90, 0, 0], 1);
+    zeros(b"90 0 0, two zeros", &[90, 0, 0], 2);
+    zeros(b"0 90 0, two zeros", &[0, 90, 0], 2);
+    zeros(b"0 90 0, three zeros", &[0, 90, 0], 3);
+    zeros(b"0 0 90, three zeros", &[0, 0, 90], 3);
+    zeros(b"0 0 90, four zeros", &[0, 0, 90], 4);
+    zeros(b"0 0 0, no zero", &[0, 0, 0], 0);
+    refused_earlier();
+}
+
 // Power, transfer, capacity and frequency, then refusal and score.
 fn show(power: i64, transfer: i64, capacity: i64, frequency: i64) {
     let s = score::second_score(
@@ -72,7 +86,7 @@ fn table_2() {
     let mut scores = [0u8; limits::SECONDS];
     let eleven = [100u8, 90, 50, 90, 90, 70, 95, 100, 100, 60, 100];
     repeat(&eleven, &mut scores, 0, limits::SECONDS);
-    rate(b"table 2 over and over", &scores);
+    first_rate(b"table 2 over and over", &scores);
 }
 
 // Eleven scores over and over, from a place on, up to another or the run's end.
@@ -98,8 +112,14 @@ fn at(pattern: &[u8], place: usize) -> u8 {
     0
 }
 
-fn rate(label: &[u8], scores: &[u8]) {
-    let r = rate::hourly_rate(scores);
+// No hour before.
+fn first_rate(label: &[u8], scores: &[u8]) {
+    let none = [0u8; 0];
+    rate(label, &none, scores);
+}
+
+fn rate(label: &[u8], earlier: &[u8], scores: &[u8]) {
+    let r = rate::hourly_rate(earlier, scores);
     io::write_all(1, label);
     text::byte(r.refusal);
     text::byte(r.rate);
@@ -120,16 +140,45 @@ fn stumbles() {
 
 // An hour of 100 with one score from a place on, up to another.
 fn stumble(label: &[u8], from: usize, to: usize, score: u8) {
+    let none = [0u8; 0];
+    stumble_after(label, &none, from, to, score);
+}
+
+fn stumble_after(label: &[u8], earlier: &[u8], from: usize, to: usize, score: u8) {
     let mut scores = [100u8; limits::SECONDS];
     repeat(&[score; 11], &mut scores, from, to);
-    rate(label, &scores);
+    rate(label, earlier, &scores);
 }
 
 fn lengths() {
     let short = [100u8; 3599];
-    rate(b"3,599 scores", &short);
+    first_rate(b"3,599 scores", &short);
     let long = [101u8; 3601];
-    rate(b"3,601 scores of 101", &long);
+    first_rate(b"3,601 scores of 101", &long);
     let none = [0u8; 0];
-    rate(b"no score", &none);
+    first_rate(b"no score", &none);
+}
+
+// An hour of 100 with so many zeros first.
+fn zeros(label: &[u8], earlier: &[u8], count: usize) {
+    stumble_after(label, earlier, 0, count, 0);
+}
+
+fn refused_earlier() {
+    let short = [100u8; 3599];
+    zeros(b"one earlier score", &[100], 1);
+    zeros(b"two earlier scores", &[100, 100], 1);
+    zeros(b"four earlier scores", &[100, 100, 100, 100], 1);
+    zeros(b"101 first", &[101, 0, 0], 1);
+    zeros(b"101 last", &[100, 100, 101], 0);
+    zeros(b"two, one of them 101", &[101, 100], 0);
+    rate(b"three, and 3,599 scores", &[100, 100, 100], &short);
+    stumble_after(
+        b"three, and a score of 101",
+        &[100, 100, 100],
+        3_599,
+        3_600,
+        101,
+    );
+    stumble_after(b"two, and a score of 101", &[100, 100], 3_599, 3_600, 101);
 }

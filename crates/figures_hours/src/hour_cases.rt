@@ -77,19 +77,44 @@ fn level(label: &[u8], power: i64, frequency: i64) {
 }
 
 fn dreg(label: &[u8], powers: &[i64], frequencies: &[i64]) {
+    let none = [0u8; 0];
+    dreg_after(label, powers, frequencies, terms(), &none);
+}
+
+// The hour after one that ended in these scores.
+pub(crate) fn dreg_after(
+    label: &[u8],
+    powers: &[i64],
+    frequencies: &[i64],
+    terms: Terms,
+    earlier: &[u8],
+) {
+    let mut scores = [7u8; limits::SECONDS];
+    dreg_work(label, powers, frequencies, terms, earlier, &mut scores);
+}
+
+// An hour on list S: its settlement, then a check sum of the run that it leaves.
+pub(crate) fn dreg_work(
+    label: &[u8],
+    powers: &[i64],
+    frequencies: &[i64],
+    terms: Terms,
+    earlier: &[u8],
+    scores: &mut [u8],
+) {
     let thresholds = [95i64, 94, 93, 92, 91, 70, 0];
     let factors = [10i64, 8, 6, 4, 2, 0, -10];
-    let mut scores = [7u8; limits::SECONDS];
     let s = hour::dreg_hour(
         powers,
         frequencies,
-        terms(),
+        terms,
         &thresholds,
         &factors,
-        &mut scores,
+        earlier,
+        scores,
     );
     settlement(label, s);
-    text::count(readings::score_sum(&scores));
+    text::count(readings::score_sum(scores));
     text::end();
 }
 
@@ -165,17 +190,38 @@ fn follow(label: &[u8], followed: [i64; 5], planned: [i64; 5]) {
 }
 
 fn shift(label: &[u8], powers: &[i64], frequencies: &[i64], terms: Terms, shift: Shift) {
-    let mut scores = [7u8; limits::SECONDS];
-    work(label, powers, frequencies, terms, shift, &mut scores);
+    let none = [0u8; 0];
+    shift_after(label, powers, frequencies, terms, shift, &none);
 }
 
-// An hour on list S: its settlement, then a check sum of the run that it leaves.
+pub(crate) fn shift_after(
+    label: &[u8],
+    powers: &[i64],
+    frequencies: &[i64],
+    terms: Terms,
+    shift: Shift,
+    earlier: &[u8],
+) {
+    let mut scores = [7u8; limits::SECONDS];
+    work(
+        label,
+        powers,
+        frequencies,
+        terms,
+        shift,
+        earlier,
+        &mut scores,
+    );
+}
+
+// The same for E-dReg.
 fn work(
     label: &[u8],
     powers: &[i64],
     frequencies: &[i64],
     terms: Terms,
     shift: Shift,
+    earlier: &[u8],
     scores: &mut [u8],
 ) {
     let thresholds = [95i64, 94, 93, 92, 91, 70, 0];
@@ -187,6 +233,7 @@ fn work(
         shift,
         &thresholds,
         &factors,
+        earlier,
         scores,
     );
     settlement(label, s);

@@ -36,17 +36,31 @@ fn posts(powers: &[i64], frequencies: &[i64]) -> Month {
     )
 }
 
-fn opened(days: u8) -> Month {
+pub(crate) fn opened(days: u8) -> Month {
     let b = Month::open(days);
     b.month
 }
 
-// The settlement, then the ledger after it.
 fn join(
     label: &[u8],
     powers: &[i64],
     frequencies: &[i64],
     target: i64,
+    m: Month,
+    day: u8,
+    hour: u8,
+) -> Month {
+    let none = [0u8; 0];
+    join_after(label, powers, frequencies, target, &none, m, day, hour)
+}
+
+// The settlement, then the ledger after it.
+pub(crate) fn join_after(
+    label: &[u8],
+    powers: &[i64],
+    frequencies: &[i64],
+    target: i64,
+    earlier: &[u8],
     m: Month,
     day: u8,
     hour: u8,
@@ -61,6 +75,7 @@ fn join(
         shift,
         &thresholds,
         &factors,
+        earlier,
         m,
         day,
         hour,

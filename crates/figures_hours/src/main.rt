@@ -1,5 +1,6 @@
 // Runs the papers' figures of whole hours: their fees, months of them, hours by their readings, joint calls.
 // crates/figures_hours/stdout has what the papers print.
+mod earlier_cases;
 mod fees_cases;
 mod hour_cases;
 mod joint_cases;
@@ -21,4 +22,8 @@ fn main() {
     hour_cases::shift_hours();
     refused_cases::hours();
     joint_cases::joint();
+    earlier_cases::hours();
+    earlier_cases::refused();
+    earlier_cases::in_a_row();
+    earlier_cases::joint();
 }

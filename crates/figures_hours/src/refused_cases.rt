@@ -93,6 +93,7 @@ fn worked(
 ) {
     let thresholds = [95i64, 0];
     let factors = [factor, -10];
+    let none = [0u8; 0];
     let s = hour::hour(
         powers,
         frequencies,
@@ -100,6 +101,7 @@ fn worked(
         shift,
         &thresholds,
         &factors,
+        &none,
         scores,
     );
     hour_cases::settlement(label, s);

@@ -4,5 +4,5 @@ use Rattle.whole.specs.Determined.{Determined}
 use Rattle.frames.proofs.answer.Reads as answer
 use Rattle.frames.proofs.answer.Kinds as answer-kinds
 
-answer-determined : Determined 2 answer-kinds.ps answer-kinds.r answer.Post
+answer-determined : Determined 3 answer-kinds.ps answer-kinds.r answer.Post
 answer-determined κs a x y s t p q = p ∙ sym q

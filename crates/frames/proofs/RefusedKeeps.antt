@@ -3,13 +3,13 @@ use Prim.Native.Nat.{ℕ}
 use mathlib.Core.Path.{_≡_, refl, sym, ap, _∙_}
 use mathlib.Core.List.{List}
 use lib.IntN.{ℤ}
-use denote.Ref.{now}
 use Rattle.whole.specs.Choice.{orElse}
 use Rattle.whole.specs.Refused.{RefusedBare}
 use Rattle.whole.proofs.Choice.{kept-old}
 use Rattle.whole.proofs.Refused.{refused-bare}
 use Rattle.words.specs.declared.Framing.{Framing}
 use Rattle.words.specs.declared.Framing.the-variants.{DregFrame, EdregFrame, Frame, LossFrames}
+use Rattle.hours.specs.Hours.{HourNumbers}
 use Rattle.frames.specs.Frames.{entryRefusal, noEntry, single, framedBy, frameAsked, hourPost, lossAsked, lossFrames, frameAnswer}
 use Rattle.frames.specs.declared.Framed.{Framed}
 use Rattle.frames.proofs.answer.Reads as answer
@@ -24,15 +24,15 @@ unfolding framedBy
 framed-bare before kind day hour amount f =
     ap (single (orElse before (entryRefusal kind day hour))) (kept-old _ _ f)
 
-answer-bare : (asks : Framing) (n terms bands readings : List ℤ) → (let x = frameAnswer asks n terms bands readings in (x .refusal ≡ 0 → ⊥) → x ≡ bare (x .refusal))
+answer-bare : (asks : Framing) (n : List ℤ) (given : HourNumbers) → (let x = frameAnswer asks n given in (x .refusal ≡ 0 → ⊥) → x ≡ bare (x .refusal))
 unfolding frameAsked hourPost lossFrames
-answer-bare DregFrame n terms bands readings f = framed-bare _ _ _ _ _ f
-answer-bare EdregFrame n terms bands readings f = framed-bare _ _ _ _ _ f
-answer-bare Frame n terms bands readings f = framed-bare _ _ _ _ _ f
-answer-bare LossFrames n terms bands readings f =
+answer-bare DregFrame n given f = framed-bare _ _ _ _ _ f
+answer-bare EdregFrame n given f = framed-bare _ _ _ _ _ f
+answer-bare Frame n given f = framed-bare _ _ _ _ _ f
+answer-bare LossFrames n given f =
     refused-bare (λ (x : Framed). x .refusal) bare (lossAsked n .refusal) _ refl refl refl f
 
-answer-refused-keeps : RefusedBare 2 answer-kinds.ps answer-kinds.r (λ κs x. x .refusal) (λ κs a k. bare k) answer.Post
+answer-refused-keeps : RefusedBare 3 answer-kinds.ps answer-kinds.r (λ κs x. x .refusal) (λ κs a k. bare k) answer.Post
 answer-refused-keeps κs a x s p f =
     let k = ap (λ (y : Framed). y .refusal) p in
-    p ∙ answer-bare (a .0) (a .1 .0) (a .1 .1 .0) (now (a .1 .1 .1 .0)) (now (a .1 .1 .1 .1 .0)) (λ z. f (k ∙ z)) ∙ sym (ap bare k)
+    p ∙ answer-bare (a .0) (a .1 .0) _ (λ z. f (k ∙ z)) ∙ sym (ap bare k)

@@ -14,7 +14,7 @@ use Rattle.words.specs.declared.Hour.{Hour}
 use Rattle.words.specs.declared.Hour.the-variants.{Dreg, Edreg}
 use Rattle.words.specs.declared.Framing.{Framing}
 use Rattle.words.specs.declared.Framing.the-variants.{DregFrame, EdregFrame, Frame, LossFrames}
-use Rattle.hours.specs.Hours.{hourAsked, settlement}
+use Rattle.hours.specs.Hours.{HourNumbers, hourAsked, settlement}
 use Rattle.loss.specs.Loss.{lossAnswer}
 use Rattle.loss.specs.declared.LossFee.{LossFee}
 use Rattle.frames.specs.declared.Framed.{Framed}
@@ -41,10 +41,10 @@ framedBy before kind day hour amount =
 unfoldable pub frameAsked : List ℤ → Framed
 frameAsked n = framedBy 0 (number n 0) (number n 1) (number n 2) (number n 3)
 
--- DAY HOUR, and an hour by its own terms, bands and readings: the post of its amount
-unfoldable pub hourPost : Hour → List ℤ → List ℤ → List ℤ → List ℤ → Framed
-hourPost hour n terms bands readings =
-    let a = settlement (hourAsked hour terms bands readings) in framedBy (a .refusal) (pos postKind) (number n 0) (number n 1) (a .amount .0)
+-- DAY HOUR, and an hour by its own numbers: the post of its amount
+unfoldable pub hourPost : Hour → List ℤ → HourNumbers → Framed
+hourPost hour n given =
+    let a = settlement (hourAsked hour given) in framedBy (a .refusal) (pos postKind) (number n 0) (number n 1) (a .amount .0)
 
 -- a loss fee's entry uses no day and no hour
 abbrev pub feeEntry : ℕ → Dollars → Entry
@@ -61,8 +61,8 @@ lossFrames n =
     (record { refusal = 0; entry = feeEntry basicFeeKind (a .basic); paired = true; second = feeEntry excessFeeKind (a .excess) })
     (single (a .refusal) noEntry)
 
-abbrev pub frameAnswer : Framing → List ℤ → List ℤ → List ℤ → List ℤ → Framed
-frameAnswer DregFrame n terms bands readings = hourPost Dreg n terms bands readings
-frameAnswer EdregFrame n terms bands readings = hourPost Edreg n terms bands readings
-frameAnswer Frame n terms bands readings = frameAsked n
-frameAnswer LossFrames n terms bands readings = lossFrames n
+abbrev pub frameAnswer : Framing → List ℤ → HourNumbers → Framed
+frameAnswer DregFrame n given = hourPost Dreg n given
+frameAnswer EdregFrame n given = hourPost Edreg n given
+frameAnswer Frame n given = frameAsked n
+frameAnswer LossFrames n given = lossFrames n

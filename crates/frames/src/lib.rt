@@ -1,5 +1,6 @@
 // The questions that print a frame, or two: the entries that they hold.
 ghost use mathlib.Core.Path.{_≡_};
+ghost use Rattle.hours.specs.Hours.{hourNumbers};
 ghost use Rattle.frames.specs.Frames.{noEntry, single, framedBy, frameAsked, hourPost, feeEntry, lossFrames, frameAnswer};
 use frame::Entry;
 use frame::kinds;
@@ -18,31 +19,41 @@ pub struct Framed {
     pub second: Entry,
 }
 
-// THE FAMILY: the entries that a question asks for, by its first numbers, and by the terms, bands and readings of its
-// hour.
+// THE FAMILY: the entries that a question asks for, by its first numbers, and by the terms, bands, earlier scores and
+// readings of its hour.
 pub fn answer(
     asks: Framing,
     head: [i64; 12],
     terms: [i64; 12],
     bands: &[i64],
+    counted: bool,
+    earlier: &[i64],
     readings: &[i64],
 ) -> Framed
-    ensures { λ r. ⌜ r ≡ frameAnswer asks head terms (now (bands .entry)) (now (readings .entry)) ⌝ }
+    ensures { λ r. ⌜ r ≡ frameAnswer asks head (hourNumbers terms (now (bands .entry)) counted (now (earlier .entry)) (now (readings .entry))) ⌝ }
 {
     match asks {
-        Framing::DregFrame => post(Hour::Dreg, head, terms, bands, readings),
-        Framing::EdregFrame => post(Hour::Edreg, head, terms, bands, readings),
+        Framing::DregFrame => post(Hour::Dreg, head, terms, bands, counted, earlier, readings),
+        Framing::EdregFrame => post(Hour::Edreg, head, terms, bands, counted, earlier, readings),
         Framing::Frame => asked(head),
         Framing::LossFrames => loss_frames(head),
     }
 }
 
 // The post of an hour's amount, on the day and the hour that stand first.
-fn post(hour: Hour, head: [i64; 12], terms: [i64; 12], bands: &[i64], readings: &[i64]) -> Framed
-    ensures { λ r. ⌜ r ≡ hourPost hour head terms (now (bands .entry)) (now (readings .entry)) ⌝ }
+fn post(
+    hour: Hour,
+    head: [i64; 12],
+    terms: [i64; 12],
+    bands: &[i64],
+    counted: bool,
+    earlier: &[i64],
+    readings: &[i64],
+) -> Framed
+    ensures { λ r. ⌜ r ≡ hourPost hour head (hourNumbers terms (now (bands .entry)) counted (now (earlier .entry)) (now (readings .entry))) ⌝ }
 {
     let mut scores = [0u8; limits::SECONDS];
-    let settled = hours::settle(hour, terms, bands, readings, &mut scores);
+    let settled = hours::settle(hour, terms, bands, counted, earlier, readings, &mut scores);
     let amount = settled.amount;
     framed_by(
         settled.refusal,

@@ -3,7 +3,7 @@
 use Prim.Native.Nat.{ℕ, _+_, _≤_, _<_}
 use mathlib.Core.Path.{_≡_, refl, sym, ap, _∙_, subst, subst₂}
 use mathlib.Core.Bool.{true, _&&_}
-use mathlib.Core.List.{List, []}
+use mathlib.Core.List.{List}
 use native.Mathlib.Omega.{arith}
 use lib.IntN.{ℤ, pos, _+ℤ_, +ℤ-idr}
 use lib.ListN.{length, getD, drop, length-take, length-drop}
@@ -25,7 +25,8 @@ use Rattle.score.specs.Score.{percentOutput, scoreOf}
 use Rattle.score.proofs.Laws.{score-most}
 use Rattle.score.proofs.Accepted.{scores-plain}
 use Rattle.score.specs.Accepted.{Scores}
-use Rattle.rate.specs.Rolling.{rolling, smallest, hourlyRate}
+use Rattle.rate.specs.Rolling.{areScores, rolling, smallest}
+use Rattle.rate.specs.Accepted.{ScoresFit}
 use Rattle.rate.specs.declared.Rated.{Rated}
 use Rattle.rate.proofs.Rates.{are-scores, rate-granted, rate-within}
 use Rattle.bands.specs.Bands.{firstPlace, bandsRefusal, factorAnswer}
@@ -35,7 +36,7 @@ use Rattle.fees.specs.Fees.{fee, feeAnswer, qualityPart, qualityAnswer, chargeO
 use Rattle.fees.specs.declared.Charged.{Charged}
 use Rattle.fees.proofs.Laws.{fee-granted, fees-fit, quality-granted, energy-granted}
 use Rattle.fees.specs.Accepted.{EnergyFits}
-use Rattle.hour.specs.Hour.{Service, dReg, eDReg, WholeHour, transfersOf, quarters, energyOf, energyPricesFit, targetsFit, hourRefusal, scoresOf, scoresLeft, grantedHour, settledOf, hourAnswer}
+use Rattle.hour.specs.Hour.{Service, dReg, eDReg, WholeHour, transfersOf, quarters, energyOf, energyPricesFit, targetsFit, readingsFit, hourRefusal, scoresOf, scoresLeft, grantedHour, settledOf, rateOf, hourAnswer}
 use Rattle.hour.specs.Accepted.{transferIn, energyIn, Accepted, HourFits}
 use Rattle.hour.specs.declared.Shift.{Shift}
 use Rattle.hour.specs.declared.Settlement.{Settlement}
@@ -45,7 +46,7 @@ use Rattle.hour.proofs.hour.Reads as hour-reads
 use Rattle.hour.proofs.hour.Kinds as hour-kinds
 use Rattle.hour.proofs.dreg_hour.Reads as dreg-reads
 use Rattle.hour.proofs.dreg_hour.Kinds as dreg-kinds
-use Rattle.hour.proofs.Laws.{fit, fit-none, Long, long, length-transfers, transfer-at, transfers-fit, refusal-is, hour-granted, scores-granted}
+use Rattle.hour.proofs.Laws.{fit, fit-none, Long, long-of, length-transfers, transfer-at, transfers-fit, refusal-is, hour-granted, scores-granted}
 use Rattle.hour.specs.Calls.{hourHanded, hourRun, dRegHanded, dRegRun}
 
 -- what is shifted has five targets
@@ -79,11 +80,14 @@ energy-plain powers (eDReg s) long readings prices targets five =
     ap (λ (x : Charged). x .dollars .0) (energy-granted (energy-fit powers s long readings prices targets five))
 
 module _ (h : WholeHour) (places : ℕ) (f : HourFits h places) (five : Five (h .service)) where
-  lengths : Long (length (h .powers)) (length (h .frequencies)) places
-  lengths = long (length (h .powers)) (length (h .frequencies)) places (f .lengths)
+  lengths : Long (length (h .powers)) (length (h .frequencies)) (length (h .earlier)) places
+  lengths = long-of h places (f .lengths)
+
+  before : areScores (h .earlier) ≡ true
+  before = and-both (areScores (h .earlier)) (readingsFit (h .powers) (h .frequencies)) (f .readings) .0
 
   readings : (arePowers (h .powers) ≡ true) × (areFrequencies (h .frequencies) ≡ true)
-  readings = and-both _ _ (f .readings)
+  readings = and-both _ _ (and-both (areScores (h .earlier)) (readingsFit (h .powers) (h .frequencies)) (f .readings) .1)
 
   prices : (isPrice (h .terms .clearing) ≡ true) × (isPrice (h .terms .performance) ≡ true) × (energyPricesFit (h .service) ≡ true)
   prices =
@@ -122,13 +126,14 @@ module _ (h : WholeHour) (places : ℕ) (f : HourFits h places) (five : Five (h 
 
   -- ---- the rate and the factor
 
-  rate-plain : hourlyRate (scoresOf h) .rate ≡ smallest (rolling [] (scoresOf h))
-  rate-plain =
-      ap (λ (x : Rated). x .rate)
-      (rate-granted (scoresOf h) (record {
-        long = scores-long;
-        small = are-scores (scoresOf h) (λ i l. subst (λ (n : ℕ). n ≤ mostScore) (sym (score-plain i (omega (arith, scores-long)))) (score-most _ _ _));
-      }))
+  scores-small : areScores (scoresOf h) ≡ true
+  scores-small = are-scores (scoresOf h) (λ i l. subst (λ (n : ℕ). n ≤ mostScore) (sym (score-plain i (omega (arith, scores-long)))) (score-most _ _ _))
+
+  pub hour-scores-fit : ScoresFit (h .earlier) (scoresOf h)
+  hour-scores-fit = record { long = scores-long; counted = lengths .counted; before = before; small = scores-small }
+
+  rate-plain : rateOf h ≡ smallest (rolling (h .earlier) (scoresOf h))
+  rate-plain = ap (λ (x : Rated). x .rate) (rate-granted (h .earlier) (scoresOf h) hour-scores-fit)
 
   factor-plain : (rate : ℕ) → rate ≤ mostScore → factorAnswer (h .thresholds) (h .factors) rate .factor ≡ getD (h .factors) (firstPlace (h .thresholds) (pos rate)) (pos 0)
   unfolding bandsRefusal
@@ -148,15 +153,15 @@ module _ (h : WholeHour) (places : ℕ) (f : HourFits h places) (five : Five (h 
   unfolding chargeOf
   quality-plain factor e = ap (λ (x : Charged). x .dollars .0) (quality-granted (fees-fit (h .terms .clearing) (h .terms .performance) (h .terms .capacity) factor e))
 
-  pub settled-accepted : Accepted h (scoresOf h) (settledOf (h .terms) (h .thresholds) (h .factors) (energyOf (h .powers) (h .service)) (scoresOf h))
+  pub settled-accepted : Accepted h (scoresOf h) (settledOf (h .terms) (h .thresholds) (h .factors) (energyOf (h .powers) (h .service)) (rateOf h))
   unfolding settledOf grantedHour
   settled-accepted =
-      let rate = hourlyRate (scoresOf h) .rate in
+      let rate = rateOf h in
       record {
         seconds = scores-long;
         score = score-plain;
         rate = rate-plain;
-        factor = factor-plain rate (rate-within (scoresOf h));
+        factor = factor-plain rate (rate-within (h .earlier) (scoresOf h));
         capacity = fee-plain (h .terms .clearing) (prices .0);
         performance = fee-plain (h .terms .performance) (prices .1);
         quality = quality-plain (factorAnswer (h .thresholds) (h .factors) rate .factor) (factor-inside (h .thresholds) (h .factors) rate);
@@ -186,7 +191,7 @@ pub five-targets : (t : Shift) (vs : List Val) → Is (row shift.the-type) t vs 
 five-targets t vs g = length-unmapped ℤ (t .targets) 5 (owed shift.the-type shift-laws.the-laws t vs g .1 .1 .0 .1 .0 .1)
 
 -- an E-dReg hour: a call of `hour`, on parameters of their types
-module _ (κs : Lfts 5) (a : Dens κs hour-kinds.ps) (good : GoodsP κs hour-kinds.ps a) (r : Settlement) (s : AtExit (endedOf 5 hour-kinds.ps hour-kinds.r) κs) (met : hour-reads.Post κs a r s) where
+module _ (κs : Lfts 6) (a : Dens κs hour-kinds.ps) (good : GoodsP κs hour-kinds.ps a) (r : Settlement) (s : AtExit (endedOf 6 hour-kinds.ps hour-kinds.r) κs) (met : hour-reads.Post κs a r s) where
   five : Five (hourHanded κs a .service)
   five = five-targets (a .1 .1 .1 .0) _ (good .1 .1 .1 .0)
 
@@ -197,7 +202,7 @@ module _ (κs : Lfts 5) (a : Dens κs hour-kinds.ps) (good : GoodsP κs hour-kin
   hour-fit-accepted = fits-accepts (hourHanded κs a) (hourRun κs a) (hourRun κs s) r five (met .0) (met .1)
 
 -- a dReg hour, whose amount is its quality part
-module _ (κs : Lfts 5) (a : Dens κs dreg-kinds.ps) (r : Settlement) (s : AtExit (endedOf 5 dreg-kinds.ps dreg-kinds.r) κs) (met : dreg-reads.Post κs a r s) where
+module _ (κs : Lfts 6) (a : Dens κs dreg-kinds.ps) (r : Settlement) (s : AtExit (endedOf 6 dreg-kinds.ps dreg-kinds.r) κs) (met : dreg-reads.Post κs a r s) where
   pub dreg-hour-accepted : r .refusal ≡ 0 → Accepted (dRegHanded κs a) (dRegRun κs s) r
   dreg-hour-accepted = accepts (dRegHanded κs a) (dRegRun κs a) (dRegRun κs s) r tt (met .0) (met .1)
 

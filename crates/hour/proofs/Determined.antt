@@ -10,16 +10,16 @@ use Rattle.hour.proofs.dreg_hour.Kinds as dreg-hour-kinds
 use Rattle.hour.proofs.refused_hour.Reads as refused-hour-reads
 use Rattle.hour.proofs.refused_hour.Kinds as refused-hour-kinds
 
-hour-determined : Determined 5 hour-kinds.ps hour-kinds.r hour-reads.Post
+hour-determined : Determined 6 hour-kinds.ps hour-kinds.r hour-reads.Post
 hour-determined κs a x y s t p q = p .0 ∙ sym (q .0)
 
-hour-scores-determined : LeftDetermined 5 hour-kinds.ps hour-kinds.r hourRun hour-reads.Post
+hour-scores-determined : LeftDetermined 6 hour-kinds.ps hour-kinds.r hourRun hour-reads.Post
 hour-scores-determined κs a x y s t p q = p .1 ∙ sym (q .1)
 
-dreg-hour-determined : Determined 5 dreg-hour-kinds.ps dreg-hour-kinds.r dreg-hour-reads.Post
+dreg-hour-determined : Determined 6 dreg-hour-kinds.ps dreg-hour-kinds.r dreg-hour-reads.Post
 dreg-hour-determined κs a x y s t p q = p .0 ∙ sym (q .0)
 
-dreg-hour-scores-determined : LeftDetermined 5 dreg-hour-kinds.ps dreg-hour-kinds.r dRegRun dreg-hour-reads.Post
+dreg-hour-scores-determined : LeftDetermined 6 dreg-hour-kinds.ps dreg-hour-kinds.r dRegRun dreg-hour-reads.Post
 dreg-hour-scores-determined κs a x y s t p q = p .1 ∙ sym (q .1)
 
 refused-hour-determined : Determined 0 refused-hour-kinds.ps refused-hour-kinds.r refused-hour-reads.Post

@@ -11,37 +11,45 @@ use lib.ListN.{length, getD, length-replicate, getD-replicate}
 use mir.Syntax.{w64}
 use mir.Val.{SFits}
 use borrow.Author.Tests.{eqb-true, eq-eqb}
-use Rattle.whole.specs.Choice.{orElse, inOrder}
+use Rattle.whole.specs.Choice.{unless, orElse, inOrder}
 use Rattle.whole.specs.Whole.{minus, Within}
 use Rattle.whole.proofs.Choice.{and-both, by-test, all-passed, passed-all, in-order-then, or-first, or-rest, kept-new, kept-old, kept-any}
 use Rattle.whole.proofs.Runs.{length-listed}
 use Rattle.whole.proofs.Signed.{within-fits}
 use Rattle.whole.proofs.Sums.{within-in, inside-all}
+use Rattle.units.specs.Refusals.{badReading}
 use Rattle.units.specs.Limits.{isCapacity, areTransfers, mostTransfer, mostAmount, isAmount, secondsOfHour}
 use Rattle.units.specs.declared.Dollars.{Dollars}
 use Rattle.ramp.proofs.Laws.{plan-at, length-plan, plan-inside}
 use Rattle.bands.specs.Bands.{bandsFit, bandsRefusal}
-use Rattle.score.specs.Run.{runRefusal, runScores, runLeft}
+use Rattle.score.specs.Run.{runRefusal, runScores}
+use Rattle.rate.specs.Rolling.{earlierFit, areScores}
 use Rattle.fees.specs.Fees.{qualityAnswer, mostEnergyFee, mostHourAmount}
 use Rattle.fees.proofs.Laws.{energy-within, amount-within}
-use Rattle.hour.specs.Hour.{Service, dReg, eDReg, WholeHour, transfersOf, energyOf, energyPricesFit, targetsFit, lengthsFit, testsOf, readingsTests, hourRefusal, scoresOf, scoresLeft, grantedHour, settledOf, refusedHour, hourAnswer}
+use Rattle.hour.specs.Hour.{Service, dReg, eDReg, WholeHour, transfersOf, energyOf, energyPricesFit, targetsFit, secondsFit, lengthsFit, readingsFit, testsOf, readingsTests, hourRefusal, scoresOf, scoresLeft, grantedHour, settledOf, refusedHour, rateOf, hourAnswer}
 use Rattle.hour.specs.Accepted.{transferIn, HourFits}
-use Rattle.hour.specs.Inner.{workedOf, termsRefusal}
+use Rattle.hour.specs.Inner.{workedRefusal, workedOf, workedLeft, termsRefusal}
 use Rattle.hour.specs.declared.Settlement.{Settlement}
 
 -- ---- the tests
 
--- three runs of 3,600
-pub record Long (powers frequencies places : ℕ) : Type 0 where
+-- three runs of 3,600, after none or three earlier scores
+pub record Long (powers frequencies earlier places : ℕ) : Type 0 where
   pub of-powers : powers ≡ secondsOfHour
   pub of-frequencies : frequencies ≡ secondsOfHour
   pub of-places : places ≡ secondsOfHour
+  pub counted : earlierFit earlier ≡ true
 
-pub long : (powers frequencies places : ℕ) → lengthsFit powers frequencies places ≡ true → Long powers frequencies places
-long p f s e =
-    let a = and-both (eqb p secondsOfHour && eqb f secondsOfHour) (eqb s secondsOfHour) e in
+pub long : (powers frequencies earlier places : ℕ) → lengthsFit powers frequencies earlier places ≡ true → Long powers frequencies earlier places
+long p f n s e =
+    let c = and-both (secondsFit p f s) (earlierFit n) e in
+    let a = and-both (eqb p secondsOfHour && eqb f secondsOfHour) (eqb s secondsOfHour) (c .0) in
     let b = and-both (eqb p secondsOfHour) (eqb f secondsOfHour) (a .0) in
-    record { of-powers = eqb-true p secondsOfHour (b .0); of-frequencies = eqb-true f secondsOfHour (b .1); of-places = eqb-true s secondsOfHour (a .1) }
+    record { of-powers = eqb-true p secondsOfHour (b .0); of-frequencies = eqb-true f secondsOfHour (b .1); of-places = eqb-true s secondsOfHour (a .1); counted = c .1 }
+
+pub long-of : (h : WholeHour) (places : ℕ) → lengthsFit (length (h .powers)) (length (h .frequencies)) (length (h .earlier)) places ≡ true
+    → Long (length (h .powers)) (length (h .frequencies)) (length (h .earlier)) places
+long-of h places e = long (length (h .powers)) (length (h .frequencies)) (length (h .earlier)) places e
 
 -- the bands' call refuses just what does not fit
 pub bands-test : (thresholds factors : List ℤ) → eqb (bandsRefusal thresholds factors) 0 ≡ bandsFit thresholds factors
@@ -61,10 +69,10 @@ unfolding hourRefusal
 fit-none h places f =
     passed-all (testsOf h places ++ readingsTests h) (f .lengths, (f .capacity, (f .prices, (f .bands, (f .targets, (f .readings, tt))))))
 
--- the refusal of the terms, and that of the readings, which comes last
+-- the refusal of the terms, and that of the readings and the earlier scores, which comes last
 abbrev pub ofTerms : WholeHour → ℕ → ℕ
 ofTerms h places =
-    termsRefusal (length (h .powers)) (length (h .frequencies)) places (h .terms) (h .thresholds) (h .factors) (energyPricesFit (h .service)) (targetsFit (h .service))
+    termsRefusal (length (h .powers)) (length (h .frequencies)) (length (h .earlier)) places (h .terms) (h .thresholds) (h .factors) (energyPricesFit (h .service)) (targetsFit (h .service))
 
 abbrev pub ofReadings : WholeHour → ℕ
 ofReadings h = inOrder (readingsTests h)
@@ -75,7 +83,7 @@ readings-last h places = in-order-then (testsOf h places) (readingsTests h) refl
 
 -- terms that are let through
 pub record TermsFit (h : WholeHour) (places : ℕ) : Type 0 where
-  pub lengths : lengthsFit (length (h .powers)) (length (h .frequencies)) places ≡ true
+  pub lengths : lengthsFit (length (h .powers)) (length (h .frequencies)) (length (h .earlier)) places ≡ true
   pub capacity : isCapacity (h .terms .capacity .0) ≡ true
   pub targets : targetsFit (h .service) ≡ true
 
@@ -108,10 +116,10 @@ transfers-fit (eDReg shift) e = plan-inside (shift .targets) e
 -- ---- the core, where the terms are let through
 
 module _ (h : WholeHour) (places : ℕ) (f : TermsFit h places) where
-  pub run-refusal-is : runRefusal (h .powers) (h .frequencies) (transfersOf (h .service)) (h .terms .capacity) places ≡ ofReadings h
+  run-refusal-is : runRefusal (h .powers) (h .frequencies) (transfersOf (h .service)) (h .terms .capacity) places ≡ unless (readingsFit (h .powers) (h .frequencies)) badReading 0
   unfolding runRefusal
   run-refusal-is =
-      let l = long (length (h .powers)) (length (h .frequencies)) places (f .lengths) in
+      let l = long-of h places (f .lengths) in
       let p = sym (l .of-powers) in
       rw (
         eq-eqb _ _ (l .of-frequencies ∙ p),
@@ -121,27 +129,32 @@ module _ (h : WholeHour) (places : ℕ) (f : TermsFit h places) where
         transfers-fit (h .service) (f .targets),
       )
 
+  pub worked-refusal-is : workedRefusal (h .powers) (h .frequencies) (transfersOf (h .service)) (h .terms .capacity) (h .earlier) places ≡ ofReadings h
+  unfolding workedRefusal
+  worked-refusal-is =
+      by-test (areScores (h .earlier)) (λ (t : areScores (h .earlier) ≡ true). rw (t, run-refusal-is)) (λ (t : areScores (h .earlier) ≡ false). rw t)
+
 module _ (h : WholeHour) (places : ℕ) (none : ofTerms h places ≡ 0) where
   readings-left : hourRefusal h places ≡ ofReadings h
   readings-left = readings-last h places ∙ or-rest (ofReadings h) none
 
-  run-refusal-left : runRefusal (h .powers) (h .frequencies) (transfersOf (h .service)) (h .terms .capacity) places ≡ hourRefusal h places
-  run-refusal-left = run-refusal-is h places (terms-fit h places none) ∙ sym readings-left
+  worked-refusal-left : workedRefusal (h .powers) (h .frequencies) (transfersOf (h .service)) (h .terms .capacity) (h .earlier) places ≡ hourRefusal h places
+  worked-refusal-left = worked-refusal-is h places (terms-fit h places none) ∙ sym readings-left
 
-  pub worked-is : workedOf (h .powers) (h .frequencies) (transfersOf (h .service)) (h .terms) (h .thresholds) (h .factors) (energyOf (h .powers) (h .service)) places ≡ hourAnswer h places
+  pub worked-is : workedOf (h .powers) (h .frequencies) (transfersOf (h .service)) (h .terms) (h .thresholds) (h .factors) (h .earlier) (energyOf (h .powers) (h .service)) places ≡ hourAnswer h places
   unfolding workedOf hourAnswer scoresOf
-  worked-is = rw run-refusal-left
+  worked-is = rw worked-refusal-left
 
 pub left-is : (h : WholeHour) (run : List ℕ) → ofTerms h (length run) ≡ 0
-    → runLeft (h .powers) (h .frequencies) (transfersOf (h .service)) (h .terms .capacity) run ≡ scoresLeft h run
-unfolding runLeft scoresLeft scoresOf
-left-is h run none = rw (run-refusal-left h (length run) none)
+    → workedLeft (h .powers) (h .frequencies) (transfersOf (h .service)) (h .terms .capacity) (h .earlier) run ≡ scoresLeft h run
+unfolding workedLeft scoresLeft scoresOf
+left-is h run none = rw (worked-refusal-left h (length run) none)
 
 -- ---- what the refusal decides
 
 module _ (h : WholeHour) (places : ℕ) where
   pub hour-granted : hourRefusal h places ≡ 0
-      → hourAnswer h places ≡ settledOf (h .terms) (h .thresholds) (h .factors) (energyOf (h .powers) (h .service)) (scoresOf h)
+      → hourAnswer h places ≡ settledOf (h .terms) (h .thresholds) (h .factors) (energyOf (h .powers) (h .service)) (rateOf h)
   unfolding hourAnswer
   hour-granted e = kept-new _ _ e
 
@@ -166,7 +179,7 @@ scores-granted h run e = kept-new _ _ e
 
 pub scores-long : (h : WholeHour) (places : ℕ) → hourRefusal h places ≡ 0 → length (scoresOf h) ≡ secondsOfHour
 unfolding scoresOf runScores
-scores-long h places e = length-listed _ 0 (length (h .powers)) ∙ long (length (h .powers)) (length (h .frequencies)) places (fit h places e .lengths) .of-powers
+scores-long h places e = length-listed _ 0 (length (h .powers)) ∙ long-of h places (fit h places e .lengths) .of-powers
 
 pub scores-refused : (h : WholeHour) (run : List ℕ) → (hourRefusal h (length run) ≡ 0 → ⊥) → scoresLeft h run ≡ run
 unfolding scoresLeft

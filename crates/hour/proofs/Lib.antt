@@ -2,5 +2,6 @@
 pub mod Laws
 pub mod Accepted
 pub mod Without
+pub mod Earlier
 mod Determined
 mod RefusedKeeps

@@ -5,7 +5,7 @@ use mathlib.Core.List.{List}
 use lib.ListN.{length}
 use Rattle.whole.specs.Refused.{RefusedKeeps}
 use Rattle.whole.proofs.Refused.{refused-bare, refused-left}
-use Rattle.hour.specs.Hour.{WholeHour, energyOf, hourRefusal, scoresOf, grantedHour, settledOf, refusedHour, hourAnswer, scoresLeft}
+use Rattle.hour.specs.Hour.{WholeHour, energyOf, hourRefusal, scoresOf, grantedHour, settledOf, refusedHour, rateOf, hourAnswer, scoresLeft}
 use Rattle.hour.specs.declared.Settlement.{Settlement}
 use Rattle.hour.specs.Calls.{hourRun, dRegRun}
 use Rattle.hour.proofs.hour.Reads as hour-reads
@@ -22,11 +22,11 @@ unfolding hourAnswer settledOf grantedHour refusedHour scoresLeft
 keeps h run scores r answer left f =
     let k = hourRefusal h (length run) in
     let new = scoresOf h in
-    let settled = settledOf (h .terms) (h .thresholds) (h .factors) (energyOf (h .powers) (h .service)) new in
+    let settled = settledOf (h .terms) (h .thresholds) (h .factors) (energyOf (h .powers) (h .service)) (rateOf h) in
     (refused-bare number refusedHour k settled refl refl answer f, refused-left number refusedHour k settled refl refl answer new run left f)
 
-hour-refused-keeps : RefusedKeeps 5 hour-kinds.ps hour-kinds.r (λ κs r. number r) (λ κs a k. refusedHour k) hourRun hourRun hour-reads.Post
+hour-refused-keeps : RefusedKeeps 6 hour-kinds.ps hour-kinds.r (λ κs r. number r) (λ κs a k. refusedHour k) hourRun hourRun hour-reads.Post
 hour-refused-keeps κs a r s p f = keeps _ _ _ r (p .0) (p .1) f
 
-dreg-hour-refused-keeps : RefusedKeeps 5 dreg-hour-kinds.ps dreg-hour-kinds.r (λ κs r. number r) (λ κs a k. refusedHour k) dRegRun dRegRun dreg-hour-reads.Post
+dreg-hour-refused-keeps : RefusedKeeps 6 dreg-hour-kinds.ps dreg-hour-kinds.r (λ κs r. number r) (λ κs a k. refusedHour k) dRegRun dRegRun dreg-hour-reads.Post
 dreg-hour-refused-keeps κs a r s p f = keeps _ _ _ r (p .0) (p .1) f

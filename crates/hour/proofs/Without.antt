@@ -13,7 +13,7 @@ use Rattle.units.specs.Limits.{secondsOfHour}
 use Rattle.ramp.specs.Ramp.{transferAt, planOf}
 use Rattle.ramp.proofs.Laws.{plan-is, transfer-none}
 use Rattle.fees.proofs.Laws.{free-energy}
-use Rattle.hour.specs.Hour.{dReg, eDReg, dRegHour, eDRegHour, noShift, quarters, transfersOf, energyPricesFit, targetsFit, hourRefusal, scoresOf, scoresLeft, hourAnswer}
+use Rattle.hour.specs.Hour.{dReg, eDReg, dRegHour, eDRegHour, noShift, quarters, transfersOf, energyPricesFit, targetsFit, hourRefusal, scoresOf, scoresLeft, rateOf, hourAnswer}
 use Rattle.hour.specs.declared.Terms.{Terms}
 
 -- a rule that is one value lists it over and over
@@ -41,19 +41,19 @@ no-targets : targetsFit (eDReg noShift) ≡ true
 unfolding allInRange inRange foldTo
 no-targets = refl
 
-module _ (powers frequencies : List ℤ) (terms : Terms) (thresholds factors : List ℤ) where
-  same-refusal : (places : ℕ) → hourRefusal (eDRegHour powers frequencies terms noShift thresholds factors) places ≡ hourRefusal (dRegHour powers frequencies terms thresholds factors) places
+module _ (powers frequencies : List ℤ) (terms : Terms) (thresholds factors : List ℤ) (earlier : List ℕ) where
+  same-refusal : (places : ℕ) → hourRefusal (eDRegHour powers frequencies terms noShift thresholds factors earlier) places ≡ hourRefusal (dRegHour powers frequencies terms thresholds factors earlier) places
   unfolding hourRefusal
   same-refusal places = rw (no-prices, no-targets)
 
-  same-scores : scoresOf (eDRegHour powers frequencies terms noShift thresholds factors) ≡ scoresOf (dRegHour powers frequencies terms thresholds factors)
+  same-scores : scoresOf (eDRegHour powers frequencies terms noShift thresholds factors earlier) ≡ scoresOf (dRegHour powers frequencies terms thresholds factors earlier)
   unfolding scoresOf
   same-scores = rw no-transfers
 
-  pub dreg-without : (places : ℕ) → hourAnswer (dRegHour powers frequencies terms thresholds factors) places ≡ hourAnswer (eDRegHour powers frequencies terms noShift thresholds factors) places
+  pub dreg-without : (places : ℕ) → hourAnswer (dRegHour powers frequencies terms thresholds factors earlier) places ≡ hourAnswer (eDRegHour powers frequencies terms noShift thresholds factors earlier) places
   unfolding hourAnswer
-  dreg-without places = sym (rw (same-refusal places, same-scores, free-energy powers (quarters noShift)))
+  dreg-without places = sym (rw (same-refusal places, rateOf, same-scores, free-energy powers (quarters noShift)))
 
-  pub dreg-without-left : (run : List ℕ) → scoresLeft (dRegHour powers frequencies terms thresholds factors) run ≡ scoresLeft (eDRegHour powers frequencies terms noShift thresholds factors) run
+  pub dreg-without-left : (run : List ℕ) → scoresLeft (dRegHour powers frequencies terms thresholds factors earlier) run ≡ scoresLeft (eDRegHour powers frequencies terms noShift thresholds factors earlier) run
   unfolding scoresLeft
   dreg-without-left run = sym (rw (same-refusal (length run), same-scores))

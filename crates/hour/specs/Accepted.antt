@@ -3,14 +3,14 @@
 use Prim.Native.Nat.{ℕ, _<_}
 use mathlib.Core.Path.{_≡_}
 use mathlib.Core.Bool.{true, _&&_}
-use mathlib.Core.List.{List, []}
+use mathlib.Core.List.{List}
 use lib.IntN.{ℤ, pos, _+ℤ_}
 use lib.ListN.{length, getD}
 use Rattle.units.specs.Limits.{isCapacity, isPrice, secondsOfHour}
 use Rattle.curve.specs.Curve.{upperAt, lowerAt}
 use Rattle.ramp.specs.Ramp.{transferAt}
 use Rattle.score.specs.Score.{percentOutput, scoreOf}
-use Rattle.rate.specs.Rolling.{rolling, smallest}
+use Rattle.rate.specs.Rolling.{areScores, rolling, smallest}
 use Rattle.bands.specs.Bands.{bandsFit, firstPlace}
 use Rattle.fees.specs.Fees.{fee, qualityPart, energyFee}
 use Rattle.hour.specs.Hour.{Service, dReg, eDReg, WholeHour, quarters, energyPricesFit, targetsFit, lengthsFit, readingsFit}
@@ -32,8 +32,8 @@ pub record Accepted (h : WholeHour) (scores : List ℕ) (r : Settlement) : Type 
   pub score : (i : ℕ) → i < secondsOfHour →
       let frequency = getD (h .frequencies) i (pos 0) in
       getD scores i 0 ≡ scoreOf (percentOutput (getD (h .powers) i (pos 0)) (transferIn (h .service) i) (h .terms .capacity .0)) (upperAt frequency) (lowerAt frequency)
-  -- the hourly rate is the smallest rolling rate
-  pub rate : r .rate ≡ smallest (rolling [] scores)
+  -- the hourly rate is the smallest rolling rate, whose first windows look back into the earlier scores (document 02, #102)
+  pub rate : r .rate ≡ smallest (rolling (h .earlier) scores)
   -- the factor is that of the first record whose threshold is at most the rate
   pub factor : r .factor ≡ getD (h .factors) (firstPlace (h .thresholds) (pos (r .rate))) (pos 0)
   -- the two fees, each rounded to the dollar
@@ -48,9 +48,9 @@ pub record Accepted (h : WholeHour) (scores : List ℕ) (r : Settlement) : Type 
 
 -- what fits: every test of `hourRefusal`, as a fact
 pub record HourFits (h : WholeHour) (places : ℕ) : Type 0 where
-  pub lengths : lengthsFit (length (h .powers)) (length (h .frequencies)) places ≡ true
+  pub lengths : lengthsFit (length (h .powers)) (length (h .frequencies)) (length (h .earlier)) places ≡ true
   pub capacity : isCapacity (h .terms .capacity .0) ≡ true
   pub prices : (isPrice (h .terms .clearing) && isPrice (h .terms .performance) && energyPricesFit (h .service)) ≡ true
   pub bands : bandsFit (h .thresholds) (h .factors) ≡ true
   pub targets : targetsFit (h .service) ≡ true
-  pub readings : readingsFit (h .powers) (h .frequencies) ≡ true
+  pub readings : (areScores (h .earlier) && readingsFit (h .powers) (h .frequencies)) ≡ true

@@ -1,4 +1,4 @@
--- A whole hour (document 01, "A second's score, an hour's rate", "Fees of one hour"): its refusals in order, its scores, its rate, its fees and its
+-- A whole hour (document 01, "A second's score, an hour's rate", "Fees of one hour"; document 02, #102): its refusals in order, its scores, its rate, its fees and its
 -- amount, made of the parts' own answers. dReg and E-dReg differ in the transfers and the energy service fee alone.
 use Prim.Native.Nat.{ℕ}
 use mathlib.Core.Bool.{Bool, true, _&&_}
@@ -14,7 +14,7 @@ use Rattle.units.specs.declared.Dollars.{Dollars}
 use Rattle.ramp.specs.Ramp.{planOf}
 use Rattle.bands.specs.Bands.{bandsFit, factorAnswer}
 use Rattle.score.specs.Run.{runScores}
-use Rattle.rate.specs.Rolling.{hourlyRate}
+use Rattle.rate.specs.Rolling.{earlierFit, areScores, hourlyRate}
 use Rattle.fees.specs.Fees.{feeAnswer, qualityAnswer, energyAnswer}
 use Rattle.hour.specs.declared.Terms.{Terms}
 use Rattle.hour.specs.declared.Shift.{Shift}
@@ -35,14 +35,16 @@ pub record WholeHour : Type 0 where
   pub service : Service
   pub thresholds : List ℤ
   pub factors : List ℤ
+  -- the last three scores of the hour before, oldest first, or none (document 02, #102)
+  pub earlier : List ℕ
 
-abbrev pub dRegHour : List ℤ → List ℤ → Terms → List ℤ → List ℤ → WholeHour
-dRegHour powers frequencies terms thresholds factors =
-    record { powers = powers; frequencies = frequencies; terms = terms; service = dReg; thresholds = thresholds; factors = factors }
+abbrev pub dRegHour : List ℤ → List ℤ → Terms → List ℤ → List ℤ → List ℕ → WholeHour
+dRegHour powers frequencies terms thresholds factors earlier =
+    record { powers = powers; frequencies = frequencies; terms = terms; service = dReg; thresholds = thresholds; factors = factors; earlier = earlier }
 
-abbrev pub eDRegHour : List ℤ → List ℤ → Terms → Shift → List ℤ → List ℤ → WholeHour
-eDRegHour powers frequencies terms shift thresholds factors =
-    record { powers = powers; frequencies = frequencies; terms = terms; service = eDReg shift; thresholds = thresholds; factors = factors }
+abbrev pub eDRegHour : List ℤ → List ℤ → Terms → Shift → List ℤ → List ℤ → List ℕ → WholeHour
+eDRegHour powers frequencies terms shift thresholds factors earlier =
+    record { powers = powers; frequencies = frequencies; terms = terms; service = eDReg shift; thresholds = thresholds; factors = factors; earlier = earlier }
 
 -- ---- what the two differ in
 
@@ -71,16 +73,20 @@ targetsFit (eDReg shift) = areTransfers (shift .targets)
 -- ---- the refusals: 1, 2, 3, 5, 10, 4
 
 -- an hour is 3,600 powers, 3,600 frequencies and a run of 3,600 scores
-abbrev pub lengthsFit : ℕ → ℕ → ℕ → Bool
-lengthsFit powers frequencies places = eqb powers secondsOfHour && eqb frequencies secondsOfHour && eqb places secondsOfHour
+abbrev pub secondsFit : ℕ → ℕ → ℕ → Bool
+secondsFit powers frequencies places = eqb powers secondsOfHour && eqb frequencies secondsOfHour && eqb places secondsOfHour
+
+-- "any other number of scores is 1 .. in [its] old place" (document 02, #102)
+abbrev pub lengthsFit : ℕ → ℕ → ℕ → ℕ → Bool
+lengthsFit powers frequencies earlier places = secondsFit powers frequencies places && earlierFit earlier
 
 abbrev pub readingsFit : List ℤ → List ℤ → Bool
 readingsFit powers frequencies = arePowers powers && areFrequencies frequencies
 
 -- all but the readings': 1, 2, 3, 5, 10
-abbrev pub termsTests : ℕ → ℕ → ℕ → Terms → List ℤ → List ℤ → Bool → Bool → List (Bool × ℕ)
-termsTests powers frequencies places terms thresholds factors priced planned =
-    (lengthsFit powers frequencies places, wrongLength)
+abbrev pub termsTests : Bool → Terms → List ℤ → List ℤ → Bool → Bool → List (Bool × ℕ)
+termsTests lengths terms thresholds factors priced planned =
+    (lengths, wrongLength)
     ∷ (isCapacity (terms .capacity .0), badCapacity)
     ∷ (isPrice (terms .clearing) && isPrice (terms .performance) && priced, badMoney)
     ∷ (bandsFit thresholds factors, badBands)
@@ -89,11 +95,11 @@ termsTests powers frequencies places terms thresholds factors priced planned =
 
 abbrev pub testsOf : WholeHour → ℕ → List (Bool × ℕ)
 testsOf h places =
-    termsTests (length (h .powers)) (length (h .frequencies)) places (h .terms) (h .thresholds) (h .factors) (energyPricesFit (h .service)) (targetsFit (h .service))
+    termsTests (lengthsFit (length (h .powers)) (length (h .frequencies)) (length (h .earlier)) places) (h .terms) (h .thresholds) (h .factors) (energyPricesFit (h .service)) (targetsFit (h .service))
 
--- and then the readings': 4
+-- and then the readings' and the earlier scores': 4
 abbrev pub readingsTests : WholeHour → List (Bool × ℕ)
-readingsTests h = (readingsFit (h .powers) (h .frequencies), badReading) ∷ []
+readingsTests h = (areScores (h .earlier) && readingsFit (h .powers) (h .frequencies), badReading) ∷ []
 
 -- of the lent run only its number of places matters
 unfoldable pub hourRefusal : WholeHour → ℕ → ℕ
@@ -136,20 +142,23 @@ refusedHour k =
       amount = dollars (pos 0);
     }
 
--- an hour by its energy service fee and its scores. "Amount: quality part plus energy service fee."
-unfoldable pub settledOf : Terms → List ℤ → List ℤ → Dollars → List ℕ → Settlement
-settledOf terms thresholds factors energy scores =
-    let rate = hourlyRate scores .rate in
+-- an hour by its energy service fee and its rate. "Amount: quality part plus energy service fee."
+unfoldable pub settledOf : Terms → List ℤ → List ℤ → Dollars → ℕ → Settlement
+settledOf terms thresholds factors energy rate =
     let factor = factorAnswer thresholds factors rate .factor in
     let capacity = feeAnswer (terms .clearing) (terms .capacity) .dollars in
     let performance = feeAnswer (terms .performance) (terms .capacity) .dollars in
     let quality = qualityAnswer capacity performance factor .dollars in
     grantedHour rate factor capacity performance quality energy (dollars (quality .0 +ℤ energy .0))
 
+-- the hour's rate: the smallest rolling rate of its scores, after the earlier ones
+abbrev pub rateOf : WholeHour → ℕ
+rateOf h = hourlyRate (h .earlier) (scoresOf h) .rate
+
 unfoldable pub hourAnswer : WholeHour → ℕ → Settlement
 hourAnswer h places =
     let k = hourRefusal h places in
-    kept k (settledOf (h .terms) (h .thresholds) (h .factors) (energyOf (h .powers) (h .service)) (scoresOf h)) (refusedHour k)
+    kept k (settledOf (h .terms) (h .thresholds) (h .factors) (energyOf (h .powers) (h .service)) (rateOf h)) (refusedHour k)
 
 -- an E-dReg hour that shifts nothing
 abbrev pub noShift : Shift

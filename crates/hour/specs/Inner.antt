@@ -1,21 +1,34 @@
--- What only mirrors the code: the refusals but for the readings', which the core tests, and the core of both hours, by its transfers and its energy service
--- fee, once the terms are let through.
+-- What only mirrors the code: the refusals but for those of the readings and the earlier scores, which the core tests, and the core of both hours, by its transfers and its energy
+-- service fee, once the terms are let through.
 use Prim.Native.Nat.{ℕ}
 use mathlib.Core.Bool.{Bool}
 use mathlib.Core.List.{List}
 use lib.IntN.{ℤ}
-use Rattle.whole.specs.Choice.{inOrder, kept}
+use lib.ListN.{length}
+use Rattle.whole.specs.Choice.{unless, inOrder, kept}
+use Rattle.units.specs.Refusals.{badReading}
+use Rattle.units.specs.declared.Kilowatts.{Kilowatts}
 use Rattle.units.specs.declared.Dollars.{Dollars}
 use Rattle.score.specs.Run.{runRefusal, runScores}
-use Rattle.hour.specs.Hour.{termsTests, settledOf, refusedHour}
+use Rattle.rate.specs.Rolling.{areScores, hourlyRate}
+use Rattle.hour.specs.Hour.{lengthsFit, termsTests, settledOf, refusedHour}
 use Rattle.hour.specs.declared.Terms.{Terms}
 use Rattle.hour.specs.declared.Settlement.{Settlement}
 
-unfoldable pub termsRefusal : ℕ → ℕ → ℕ → Terms → List ℤ → List ℤ → Bool → Bool → ℕ
-termsRefusal powers frequencies places terms thresholds factors priced planned =
-    inOrder (termsTests powers frequencies places terms thresholds factors priced planned)
+unfoldable pub termsRefusal : ℕ → ℕ → ℕ → ℕ → Terms → List ℤ → List ℤ → Bool → Bool → ℕ
+termsRefusal powers frequencies earlier places terms thresholds factors priced planned =
+    inOrder (termsTests (lengthsFit powers frequencies earlier places) terms thresholds factors priced planned)
 
-unfoldable pub workedOf : List ℤ → List ℤ → List ℤ → Terms → List ℤ → List ℤ → Dollars → ℕ → Settlement
-workedOf powers frequencies transfers terms thresholds factors energy places =
-    let k = runRefusal powers frequencies transfers (terms .capacity) places in
-    kept k (settledOf terms thresholds factors energy (runScores powers frequencies transfers (terms .capacity))) (refusedHour k)
+-- 4 for an earlier score, then the run's own number
+unfoldable pub workedRefusal : List ℤ → List ℤ → List ℤ → Kilowatts → List ℕ → ℕ → ℕ
+workedRefusal powers frequencies transfers capacity earlier places =
+    unless (areScores earlier) badReading (runRefusal powers frequencies transfers capacity places)
+
+unfoldable pub workedOf : List ℤ → List ℤ → List ℤ → Terms → List ℤ → List ℤ → List ℕ → Dollars → ℕ → Settlement
+workedOf powers frequencies transfers terms thresholds factors earlier energy places =
+    let k = workedRefusal powers frequencies transfers (terms .capacity) earlier places in
+    kept k (settledOf terms thresholds factors energy (hourlyRate earlier (runScores powers frequencies transfers (terms .capacity)) .rate)) (refusedHour k)
+
+unfoldable pub workedLeft : List ℤ → List ℤ → List ℤ → Kilowatts → List ℕ → List ℕ → List ℕ
+workedLeft powers frequencies transfers capacity earlier run =
+    kept (workedRefusal powers frequencies transfers capacity earlier (length run)) (runScores powers frequencies transfers capacity) run

@@ -2,4 +2,5 @@
 pub mod Hour
 pub mod Accepted
 pub mod Calls
+pub mod Earlier
 pub mod Inner

@@ -11,10 +11,9 @@ ghost use Rattle.units.specs.Units.{dollars};
 ghost use Rattle.fees.specs.Fees.{feeAnswer, qualityAnswer, energyAnswer, mostEnergyFee};
 ghost use Rattle.bands.specs.Bands.{factorAnswer};
 ghost use Rattle.ramp.specs.Ramp.{planOf};
-ghost use Rattle.score.specs.Run.{runLeft};
 ghost use Rattle.rate.specs.Rolling.{hourlyRate};
 ghost use Rattle.hour.specs.Hour.{eDReg, dRegHour, eDRegHour, energyOf, energyPricesFit, targetsFit, lengthsFit, scoresLeft, grantedHour, refusedHour, settledOf, hourAnswer};
-ghost use Rattle.hour.specs.Inner.{workedOf, termsRefusal};
+ghost use Rattle.hour.specs.Inner.{workedOf, workedLeft, termsRefusal};
 use units::Dollars;
 use units::Kilowatts;
 use units::limits;
@@ -50,21 +49,24 @@ pub struct Settlement {
 }
 
 // A dReg hour: its settlement, and its scores in the lent run; or its refusal, and the run as it was. It transfers
-// nothing and is paid no energy.
+// nothing and is paid no energy. The first three rolling rates look back into the earlier scores: the last three of
+// the hour before, oldest first, or none.
 pub fn dreg_hour(
     powers: &[i64],
     frequencies: &[i64],
     terms: Terms,
     thresholds: &[i64],
     factors: &[i64],
+    earlier: &[u8],
     scores: &mut [u8],
 ) -> Settlement
-    ensures answers { λ r. ⌜ r ≡ hourAnswer (dRegHour (now (powers .entry)) (now (frequencies .entry)) terms (now (thresholds .entry)) (now (factors .entry))) (length (now (scores .entry))) ⌝ }
-    ensures leaves { λ r. ⌜ now (scores .exit) ≡ scoresLeft (dRegHour (now (powers .entry)) (now (frequencies .entry)) terms (now (thresholds .entry)) (now (factors .entry))) (now (scores .entry)) ⌝ }
+    ensures answers { λ r. ⌜ r ≡ hourAnswer (dRegHour (now (powers .entry)) (now (frequencies .entry)) terms (now (thresholds .entry)) (now (factors .entry)) (now (earlier .entry))) (length (now (scores .entry))) ⌝ }
+    ensures leaves { λ r. ⌜ now (scores .exit) ≡ scoresLeft (dRegHour (now (powers .entry)) (now (frequencies .entry)) terms (now (thresholds .entry)) (now (factors .entry)) (now (earlier .entry))) (now (scores .entry)) ⌝ }
 {
     let k = refusal(
         powers.len(),
         frequencies.len(),
+        earlier.len(),
         scores.len(),
         terms,
         thresholds,
@@ -84,6 +86,7 @@ pub fn dreg_hour(
         terms,
         thresholds,
         factors,
+        earlier,
         energy,
         scores,
     )
@@ -97,14 +100,16 @@ pub fn hour(
     shift: Shift,
     thresholds: &[i64],
     factors: &[i64],
+    earlier: &[u8],
     scores: &mut [u8],
 ) -> Settlement
-    ensures answers { λ r. ⌜ r ≡ hourAnswer (eDRegHour (now (powers .entry)) (now (frequencies .entry)) terms shift (now (thresholds .entry)) (now (factors .entry))) (length (now (scores .entry))) ⌝ }
-    ensures leaves { λ r. ⌜ now (scores .exit) ≡ scoresLeft (eDRegHour (now (powers .entry)) (now (frequencies .entry)) terms shift (now (thresholds .entry)) (now (factors .entry))) (now (scores .entry)) ⌝ }
+    ensures answers { λ r. ⌜ r ≡ hourAnswer (eDRegHour (now (powers .entry)) (now (frequencies .entry)) terms shift (now (thresholds .entry)) (now (factors .entry)) (now (earlier .entry))) (length (now (scores .entry))) ⌝ }
+    ensures leaves { λ r. ⌜ now (scores .exit) ≡ scoresLeft (eDRegHour (now (powers .entry)) (now (frequencies .entry)) terms shift (now (thresholds .entry)) (now (factors .entry)) (now (earlier .entry))) (now (scores .entry)) ⌝ }
 {
     let k = shift_refusal(
         powers.len(),
         frequencies.len(),
+        earlier.len(),
         scores.len(),
         terms,
         shift,
@@ -121,6 +126,7 @@ pub fn hour(
         shift,
         thresholds,
         factors,
+        earlier,
         scores,
     )
 }
@@ -142,11 +148,12 @@ pub fn refused_hour(number: u8) -> Settlement
     }
 }
 
-// 1, 2, 3, 5, 10; the readings are tested where they are scored. `priced` and `planned` are the tests of what is
-// shifted.
+// 1, 2, 3, 5, 10; the readings and the earlier scores are tested where the hour is scored. `priced` and `planned` are
+// the tests of what is shifted.
 fn refusal(
     powers: usize,
     frequencies: usize,
+    earlier: usize,
     places: usize,
     terms: Terms,
     thresholds: &[i64],
@@ -154,7 +161,7 @@ fn refusal(
     priced: bool,
     planned: bool,
 ) -> u8
-    ensures { λ r. ⌜ r ≡ termsRefusal powers frequencies places terms (now (thresholds .entry)) (now (factors .entry)) priced planned ⌝ }
+    ensures { λ r. ⌜ r ≡ termsRefusal powers frequencies earlier places terms (now (thresholds .entry)) (now (factors .entry)) priced planned ⌝ }
 {
     let targets = whole::unless(planned, refusals::BAD_TRANSFER, 0);
     let banded = bands::check(thresholds, factors) == 0;
@@ -162,7 +169,7 @@ fn refusal(
     let money = prices_fit(terms.clearing, terms.performance) & priced;
     let prices = whole::unless(money, refusals::BAD_MONEY, bands);
     let capacity = whole::unless(capacity_fits(terms), refusals::BAD_CAPACITY, prices);
-    let lengths = lengths_fit(powers, frequencies, places);
+    let lengths = lengths_fit(powers, frequencies, earlier, places);
     whole::unless(lengths, refusals::WRONG_LENGTH, capacity)
 }
 
@@ -180,14 +187,17 @@ fn capacity_fits(terms: Terms) -> bool
     whole::within(size, 1, limits::CAPACITY)
 }
 
-fn lengths_fit(powers: usize, frequencies: usize, places: usize) -> bool
-    ensures { λ r. ⌜ r ≡ lengthsFit powers frequencies places ⌝ }
+fn lengths_fit(powers: usize, frequencies: usize, earlier: usize, places: usize) -> bool
+    ensures { λ r. ⌜ r ≡ lengthsFit powers frequencies earlier places ⌝ }
 {
-    (powers == limits::SECONDS) & (frequencies == limits::SECONDS) & (places == limits::SECONDS)
+    let runs = (powers == limits::SECONDS)
+        & (frequencies == limits::SECONDS)
+        & (places == limits::SECONDS);
+    runs & rate::earlier_fits(earlier)
 }
 
-// THE CORE of both hours: the scores by the transfers, and the settlement by the scores; or the readings' refusal, and
-// the run as it was.
+// THE CORE of both hours: the scores by the transfers, and the settlement by the scores; or the refusal of the readings
+// and the earlier scores, and the run as it was.
 fn worked(
     powers: &[i64],
     frequencies: &[i64],
@@ -195,18 +205,22 @@ fn worked(
     terms: Terms,
     thresholds: &[i64],
     factors: &[i64],
+    earlier: &[u8],
     energy: Dollars,
     scores: &mut [u8],
 ) -> Settlement
     requires { ⌜ Within mostEnergyFee (energy .0) ⌝ }
-    ensures answers { λ r. ⌜ r ≡ workedOf (now (powers .entry)) (now (frequencies .entry)) (now (transfers .entry)) terms (now (thresholds .entry)) (now (factors .entry)) energy (length (now (scores .entry))) ⌝ }
-    ensures leaves { λ r. ⌜ now (scores .exit) ≡ runLeft (now (powers .entry)) (now (frequencies .entry)) (now (transfers .entry)) (terms .capacity) (now (scores .entry)) ⌝ }
+    ensures answers { λ r. ⌜ r ≡ workedOf (now (powers .entry)) (now (frequencies .entry)) (now (transfers .entry)) terms (now (thresholds .entry)) (now (factors .entry)) (now (earlier .entry)) energy (length (now (scores .entry))) ⌝ }
+    ensures leaves { λ r. ⌜ now (scores .exit) ≡ workedLeft (now (powers .entry)) (now (frequencies .entry)) (now (transfers .entry)) (terms .capacity) (now (earlier .entry)) (now (scores .entry)) ⌝ }
 {
+    if !rate::are_scores(earlier) {
+        return refused_hour(refusals::BAD_READING);
+    }
     let number = score::run_scores(powers, frequencies, transfers, terms.capacity, scores);
     if number != 0 {
         return refused_hour(number);
     }
-    settled(terms, thresholds, factors, energy, scores)
+    settled(terms, thresholds, factors, energy, earlier, scores)
 }
 
 // The rate, the factor and the fees of an hour by its scores.
@@ -215,12 +229,13 @@ fn settled(
     thresholds: &[i64],
     factors: &[i64],
     energy: Dollars,
+    earlier: &[u8],
     scores: &[u8],
 ) -> Settlement
     requires { ⌜ Within mostEnergyFee (energy .0) ⌝ }
-    ensures { λ r. ⌜ r ≡ settledOf terms (now (thresholds .entry)) (now (factors .entry)) energy (now (scores .entry)) ⌝ }
+    ensures { λ r. ⌜ r ≡ settledOf terms (now (thresholds .entry)) (now (factors .entry)) energy (hourlyRate (now (earlier .entry)) (now (scores .entry)) .rate) ⌝ }
 {
-    let rate = rate_of(scores);
+    let rate = rate_of(earlier, scores);
     let factor = factor_of(thresholds, factors, rate);
     let capacity = fee_of(terms.clearing, terms.capacity);
     let performance = fee_of(terms.performance, terms.capacity);
@@ -236,10 +251,10 @@ fn settled(
     )
 }
 
-fn rate_of(scores: &[u8]) -> u8
-    ensures { λ r. ⌜ r ≡ hourlyRate (now (scores .entry)) .rate ⌝ }
+fn rate_of(earlier: &[u8], scores: &[u8]) -> u8
+    ensures { λ r. ⌜ r ≡ hourlyRate (now (earlier .entry)) (now (scores .entry)) .rate ⌝ }
 {
-    let rated = rate::hourly_rate(scores);
+    let rated = rate::hourly_rate(earlier, scores);
     rated.rate
 }
 
@@ -302,19 +317,21 @@ fn plus(quality: Dollars, energy: Dollars) -> Dollars
 fn shift_refusal(
     powers: usize,
     frequencies: usize,
+    earlier: usize,
     places: usize,
     terms: Terms,
     shift: Shift,
     thresholds: &[i64],
     factors: &[i64],
 ) -> u8
-    ensures { λ r. ⌜ r ≡ termsRefusal powers frequencies places terms (now (thresholds .entry)) (now (factors .entry)) (energyPricesFit (eDReg shift)) (targetsFit (eDReg shift)) ⌝ }
+    ensures { λ r. ⌜ r ≡ termsRefusal powers frequencies earlier places terms (now (thresholds .entry)) (now (factors .entry)) (energyPricesFit (eDReg shift)) (targetsFit (eDReg shift)) ⌝ }
 {
     let priced = prices_fit(shift.discharge, shift.charge);
     let planned = whole::all_within(&shift.targets, LEAST_TRANSFER, limits::TRANSFER);
     refusal(
         powers,
         frequencies,
+        earlier,
         places,
         terms,
         thresholds,
@@ -332,11 +349,12 @@ fn shifted(
     shift: Shift,
     thresholds: &[i64],
     factors: &[i64],
+    earlier: &[u8],
     scores: &mut [u8],
 ) -> Settlement
     requires { ⌜ targetsFit (eDReg shift) ≡ true ⌝ }
-    ensures answers { λ r. ⌜ r ≡ workedOf (now (powers .entry)) (now (frequencies .entry)) (planOf (shift .targets)) terms (now (thresholds .entry)) (now (factors .entry)) (energyOf (now (powers .entry)) (eDReg shift)) (length (now (scores .entry))) ⌝ }
-    ensures leaves { λ r. ⌜ now (scores .exit) ≡ runLeft (now (powers .entry)) (now (frequencies .entry)) (planOf (shift .targets)) (terms .capacity) (now (scores .entry)) ⌝ }
+    ensures answers { λ r. ⌜ r ≡ workedOf (now (powers .entry)) (now (frequencies .entry)) (planOf (shift .targets)) terms (now (thresholds .entry)) (now (factors .entry)) (now (earlier .entry)) (energyOf (now (powers .entry)) (eDReg shift)) (length (now (scores .entry))) ⌝ }
+    ensures leaves { λ r. ⌜ now (scores .exit) ≡ workedLeft (now (powers .entry)) (now (frequencies .entry)) (planOf (shift .targets)) (terms .capacity) (now (earlier .entry)) (now (scores .entry)) ⌝ }
 {
     let mut transfers = [0i64; limits::SECONDS];
     ramp::plan(&shift.targets, &mut transfers);
@@ -350,6 +368,7 @@ fn shifted(
         terms,
         thresholds,
         factors,
+        earlier,
         energy,
         scores,
     )

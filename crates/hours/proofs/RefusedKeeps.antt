@@ -23,19 +23,19 @@ use Rattle.hours.proofs.answer.Reads as answer
 use Rattle.hours.proofs.answer.Kinds as answer-kinds
 
 -- `settle`'s run of scores, as it was lent and as it is left
-abbrev lent : (κs : Lfts 3) → Dens κs settle-kinds.ps → List ℕ
-lent κs a = now (a .1 .1 .1 .1 .0)
+abbrev lent : (κs : Lfts 4) → Dens κs settle-kinds.ps → List ℕ
+lent κs a = now (a .1 .1 .1 .1 .1 .1 .0)
 
-abbrev left : (κs : Lfts 3) → AtExit (endedOf 3 settle-kinds.ps settle-kinds.r) κs → List ℕ
-left κs s = now (s .1 .1 .1 .1 .0)
+abbrev left : (κs : Lfts 4) → AtExit (endedOf 4 settle-kinds.ps settle-kinds.r) κs → List ℕ
+left κs s = now (s .1 .1 .1 .1 .1 .1 .0)
 
-settle-refused-keeps : RefusedKeeps 3 settle-kinds.ps settle-kinds.r (λ κs x. x .refusal) (λ κs a k. refusedHour k) lent left settle.Post
+settle-refused-keeps : RefusedKeeps 4 settle-kinds.ps settle-kinds.r (λ κs x. x .refusal) (λ κs a k. refusedHour k) lent left settle.Post
 unfolding scoresAfter
 settle-refused-keeps κs a x s p f =
     let k = ap (λ (y : Settlement). y .refusal) (p .0) in
     (p .0 ∙ refused-is _ (λ z. f (k ∙ z)) ∙ sym (ap refusedHour k), p .1 ∙ kept-old _ _ (λ z. f (k ∙ z)))
 
-answer-refused-keeps : RefusedBare 2 answer-kinds.ps answer-kinds.r (λ κs x. x .refusal) (λ κs a k. boxed (reply k (replicate 7 (pos 0)))) answer.Post
+answer-refused-keeps : RefusedBare 3 answer-kinds.ps answer-kinds.r (λ κs x. x .refusal) (λ κs a k. boxed (reply k (replicate 7 (pos 0)))) answer.Post
 unfolding hourReply refusedHour
 answer-refused-keeps κs a x s p f =
     let k = ap (λ (y : Few). y .refusal) p in

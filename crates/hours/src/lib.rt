@@ -1,35 +1,40 @@
-// The questions about a whole hour: its terms, its bands as pairs, and its readings as pairs.
+// The questions about a whole hour: its terms, its bands as pairs, its earlier scores, and its readings as pairs.
 ghost use Prim.Native.Nat.{_≤_};
 ghost use mathlib.Core.Bool.{true};
 ghost use mathlib.Core.Path.{_≡_};
 ghost use lib.ListN.{length};
 ghost use Rattle.hour.specs.Hour.{hourAnswer, scoresLeft};
 ghost use Rattle.numbers.specs.Numbers.{column};
+ghost use Rattle.numbers.specs.Inner.{taken};
 ghost use Rattle.words.specs.Inner.{boxed};
-ghost use Rattle.hours.specs.Hours.{termsOf, shiftOf, serviceOf, hourFrom, countsFit, hourBy, hourAsked, settlement, scoresAfter, hourReply};
+ghost use Rattle.hours.specs.Hours.{hourNumbers, termsOf, shiftOf, serviceOf, hourFrom, countsFit, hourBy, hourAsked, settlement, scoresAfter, hourReply};
 ghost use Rattle.hours.specs.Inner.{pairsIn};
 use hour::Settlement;
 use hour::Shift;
 use hour::Terms;
+use numbers::Earlier;
 use units::Kilowatts;
 use units::limits;
 use units::refusals;
 use words::Few;
 use words::Hour;
 
-// Settles the hour that a question asks about, by its terms, its bands and its readings; its scores go into the lent
-// run. A number without its other among the bands, and readings that are not two for each second, are refused with 1.
+// Settles the hour that a question asks about, by its terms, its bands, its earlier scores and its readings; its scores
+// go into the lent run. A number without its other among the bands, earlier scores that are not counted, and readings
+// that are not two for each second, are refused with 1.
 pub fn settle(
     hour: Hour,
     terms: [i64; 12],
     bands: &[i64],
+    counted: bool,
+    earlier: &[i64],
     readings: &[i64],
     scores: &mut [u8; limits::SECONDS],
 ) -> Settlement
-    ensures answers { λ r. ⌜ r ≡ settlement (hourAsked hour terms (now (bands .entry)) (now (readings .entry))) ⌝ }
-    ensures leaves { λ r. ⌜ now (scores .exit) ≡ scoresAfter (hourAsked hour terms (now (bands .entry)) (now (readings .entry))) (now (scores .entry)) ⌝ }
+    ensures answers { λ r. ⌜ r ≡ settlement (hourAsked hour (hourNumbers terms (now (bands .entry)) counted (now (earlier .entry)) (now (readings .entry)))) ⌝ }
+    ensures leaves { λ r. ⌜ now (scores .exit) ≡ scoresAfter (hourAsked hour (hourNumbers terms (now (bands .entry)) counted (now (earlier .entry)) (now (readings .entry)))) (now (scores .entry)) ⌝ }
 {
-    if !counts_fit(bands.len(), readings.len()) {
+    if !counts_fit(bands.len(), counted, readings.len()) {
         return hour::refused_hour(refusals::WRONG_LENGTH);
     }
     settle_by(
@@ -37,17 +42,25 @@ pub fn settle(
         terms_of(terms),
         shift_of(terms),
         bands,
+        earlier,
         readings,
         scores,
     )
 }
 
 // THE FAMILY: the answer to a question about a whole hour.
-pub fn answer(hour: Hour, terms: [i64; 12], bands: &[i64], readings: &[i64]) -> Few
-    ensures { λ r. ⌜ r ≡ boxed (hourReply hour terms (now (bands .entry)) (now (readings .entry))) ⌝ }
+pub fn answer(
+    hour: Hour,
+    terms: [i64; 12],
+    bands: &[i64],
+    counted: bool,
+    earlier: &[i64],
+    readings: &[i64],
+) -> Few
+    ensures { λ r. ⌜ r ≡ boxed (hourReply hour (hourNumbers terms (now (bands .entry)) counted (now (earlier .entry)) (now (readings .entry)))) ⌝ }
 {
     let mut scores = [0u8; limits::SECONDS];
-    let settled = settle(hour, terms, bands, readings, &mut scores);
+    let settled = settle(hour, terms, bands, counted, earlier, readings, &mut scores);
     let capacity = settled.capacity;
     let performance = settled.performance;
     let quality = settled.quality;
@@ -73,10 +86,10 @@ pub fn answer(hour: Hour, terms: [i64; 12], bands: &[i64], readings: &[i64]) -> 
     }
 }
 
-fn counts_fit(bands: usize, readings: usize) -> bool
-    ensures { λ r. ⌜ r ≡ countsFit bands readings ⌝ }
+fn counts_fit(bands: usize, counted: bool, readings: usize) -> bool
+    ensures { λ r. ⌜ r ≡ countsFit bands counted readings ⌝ }
 {
-    (bands % 2 == 0) & (readings == 2 * limits::SECONDS)
+    (bands % 2 == 0) & counted & (readings == 2 * limits::SECONDS)
 }
 
 // The same by its readings as pairs.
@@ -85,18 +98,29 @@ fn settle_by(
     terms: Terms,
     shift: Shift,
     bands: &[i64],
+    earlier: &[i64],
     readings: &[i64],
     scores: &mut [u8; limits::SECONDS],
 ) -> Settlement
-    requires { ⌜ countsFit (length (now bands)) (length (now readings)) ≡ true ⌝ }
-    ensures answers { λ r. ⌜ r ≡ settlement (hourBy terms (serviceOf hour shift) (now (bands .entry)) (now (readings .entry))) ⌝ }
-    ensures leaves { λ r. ⌜ now (scores .exit) ≡ scoresAfter (hourBy terms (serviceOf hour shift) (now (bands .entry)) (now (readings .entry))) (now (scores .entry)) ⌝ }
+    requires { ⌜ countsFit (length (now bands)) true (length (now readings)) ≡ true ⌝ }
+    ensures answers { λ r. ⌜ r ≡ settlement (hourBy terms (serviceOf hour shift) (now (bands .entry)) true (now (earlier .entry)) (now (readings .entry))) ⌝ }
+    ensures leaves { λ r. ⌜ now (scores .exit) ≡ scoresAfter (hourBy terms (serviceOf hour shift) (now (bands .entry)) true (now (earlier .entry)) (now (readings .entry))) (now (scores .entry)) ⌝ }
 {
     let mut powers = [0i64; limits::SECONDS];
     let mut frequencies = [0i64; limits::SECONDS];
     numbers::column(readings, false, &mut powers);
     numbers::column(readings, true, &mut frequencies);
-    settle_bands(hour, terms, shift, bands, &powers, &frequencies, scores)
+    let before = numbers::first_four(earlier);
+    settle_bands(
+        hour,
+        terms,
+        shift,
+        bands,
+        before,
+        &powers,
+        &frequencies,
+        scores,
+    )
 }
 
 // The same by its bands as pairs.
@@ -105,18 +129,22 @@ fn settle_bands(
     terms: Terms,
     shift: Shift,
     bands: &[i64],
+    before: Earlier,
     powers: &[i64],
     frequencies: &[i64],
     scores: &mut [u8],
 ) -> Settlement
-    ensures answers { λ r. ⌜ r ≡ hourAnswer (hourFrom (now (powers .entry)) (now (frequencies .entry)) terms (serviceOf hour shift) (column (now (bands .entry)) 0 (pairsIn (length (now (bands .entry))))) (column (now (bands .entry)) 1 (pairsIn (length (now (bands .entry)))))) (length (now (scores .entry))) ⌝ }
-    ensures leaves { λ r. ⌜ now (scores .exit) ≡ scoresLeft (hourFrom (now (powers .entry)) (now (frequencies .entry)) terms (serviceOf hour shift) (column (now (bands .entry)) 0 (pairsIn (length (now (bands .entry))))) (column (now (bands .entry)) 1 (pairsIn (length (now (bands .entry)))))) (now (scores .entry)) ⌝ }
+    requires { ⌜ before .count ≤ length (before .scores) ⌝ }
+    ensures answers { λ r. ⌜ r ≡ hourAnswer (hourFrom (now (powers .entry)) (now (frequencies .entry)) terms (serviceOf hour shift) (column (now (bands .entry)) 0 (pairsIn (length (now (bands .entry))))) (column (now (bands .entry)) 1 (pairsIn (length (now (bands .entry))))) (taken before)) (length (now (scores .entry))) ⌝ }
+    ensures leaves { λ r. ⌜ now (scores .exit) ≡ scoresLeft (hourFrom (now (powers .entry)) (now (frequencies .entry)) terms (serviceOf hour shift) (column (now (bands .entry)) 0 (pairsIn (length (now (bands .entry))))) (column (now (bands .entry)) 1 (pairsIn (length (now (bands .entry))))) (taken before)) (now (scores .entry)) ⌝ }
 {
     let mut thresholds = [0i64; 100];
     let mut factors = [0i64; 100];
     numbers::column(bands, false, &mut thresholds);
     numbers::column(bands, true, &mut factors);
     let n = pairs_in(bands.len());
+    let count = before.count;
+    let earlier = before.scores;
     settle_kind(
         hour,
         powers,
@@ -125,6 +153,7 @@ fn settle_bands(
         shift,
         &thresholds[..n],
         &factors[..n],
+        &earlier[..count],
         scores,
     )
 }
@@ -147,13 +176,22 @@ fn settle_kind(
     shift: Shift,
     thresholds: &[i64],
     factors: &[i64],
+    earlier: &[u8],
     scores: &mut [u8],
 ) -> Settlement
-    ensures answers { λ r. ⌜ r ≡ hourAnswer (hourFrom (now (powers .entry)) (now (frequencies .entry)) terms (serviceOf hour shift) (now (thresholds .entry)) (now (factors .entry))) (length (now (scores .entry))) ⌝ }
-    ensures leaves { λ r. ⌜ now (scores .exit) ≡ scoresLeft (hourFrom (now (powers .entry)) (now (frequencies .entry)) terms (serviceOf hour shift) (now (thresholds .entry)) (now (factors .entry))) (now (scores .entry)) ⌝ }
+    ensures answers { λ r. ⌜ r ≡ hourAnswer (hourFrom (now (powers .entry)) (now (frequencies .entry)) terms (serviceOf hour shift) (now (thresholds .entry)) (now (factors .entry)) (now (earlier .entry))) (length (now (scores .entry))) ⌝ }
+    ensures leaves { λ r. ⌜ now (scores .exit) ≡ scoresLeft (hourFrom (now (powers .entry)) (now (frequencies .entry)) terms (serviceOf hour shift) (now (thresholds .entry)) (now (factors .entry)) (now (earlier .entry))) (now (scores .entry)) ⌝ }
 {
     match hour {
-        Hour::Dreg => hour::dreg_hour(powers, frequencies, terms, thresholds, factors, scores),
+        Hour::Dreg => hour::dreg_hour(
+            powers,
+            frequencies,
+            terms,
+            thresholds,
+            factors,
+            earlier,
+            scores,
+        ),
         Hour::Edreg => hour::hour(
             powers,
             frequencies,
@@ -161,6 +199,7 @@ fn settle_kind(
             shift,
             thresholds,
             factors,
+            earlier,
             scores,
         ),
     }

@@ -65,7 +65,7 @@ posted-is worked m d x fine =
 -- ---- runs with joint calls
 
 -- any answer that meets `joint`'s contract is one
-pub joint-called : (κs : Lfts 4) (b : Dens κs joint-kinds.ps) (j : Joined) (e : AtExit (endedOf 4 joint-kinds.ps joint-kinds.r) κs) → joint-reads.Post κs b j e
+pub joint-called : (κs : Lfts 5) (b : Dens κs joint-kinds.ps) (j : Joined) (e : AtExit (endedOf 5 joint-kinds.ps joint-kinds.r) κs) → joint-reads.Post κs b j e
     → JointCalled (workedBy (jointHanded b)) (monthGiven b) (dayGiven b) (hourGiven b) j
 joint-called = joint-posts
 
@@ -73,13 +73,13 @@ joint-called = joint-posts
 abbrev lend : {X : Type 0} → X → RefT X
 lend x = record { ptr = (0, 0); name = 0; now = x }
 
-pub joint-made : (powers frequencies : List ℤ) (t : Terms) (shift : Shift) (thresholds factors : List ℤ) (m : Month) (d x : ℕ) →
-    let h = eDRegHour powers frequencies t shift thresholds factors in
+pub joint-made : (powers frequencies : List ℤ) (t : Terms) (shift : Shift) (thresholds factors : List ℤ) (earlier : List ℕ) (m : Month) (d x : ℕ) →
+    let h = eDRegHour powers frequencies t shift thresholds factors earlier in
     JointCalled (workedBy h) m d x (jointOf h m d x)
-joint-made powers frequencies t shift ts fs m d x =
-    let κs : Lfts 4 = ([], ([], ([], ([], tt)))) in
-    let given : Dens κs joint-kinds.ps = (lend powers, (lend frequencies, (t, (shift, (lend ts, (lend fs, (m, (d, (x, tt))))))))) in
-    joint-called κs given (jointOf (eDRegHour powers frequencies t shift ts fs) m d x) given refl
+joint-made powers frequencies t shift ts fs es m d x =
+    let κs : Lfts 5 = ([], ([], ([], ([], ([], tt))))) in
+    let given : Dens κs joint-kinds.ps = (lend powers, (lend frequencies, (t, (shift, (lend ts, (lend fs, (lend es, (m, (d, (x, tt)))))))))) in
+    joint-called κs given (jointOf (eDRegHour powers frequencies t shift ts fs es) m d x) given refl
 
 pub by-posts : (days : ℕ) (es : List Event) (m : Month) → JointRun monthLedger days es m → Run monthLedger days (callsOf es) m
 by-posts days _ m (opens _ o) = opened m o

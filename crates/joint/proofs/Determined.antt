@@ -4,5 +4,5 @@ use Rattle.whole.specs.Determined.{Determined}
 use Rattle.joint.proofs.joint.Reads as joint-reads
 use Rattle.joint.proofs.joint.Kinds as joint-kinds
 
-joint-determined : Determined 4 joint-kinds.ps joint-kinds.r joint-reads.Post
+joint-determined : Determined 5 joint-kinds.ps joint-kinds.r joint-reads.Post
 joint-determined κs a x y s t p q = p ∙ sym q

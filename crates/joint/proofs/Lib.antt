@@ -1,5 +1,6 @@
 -- What belongs to no one function; `pub` is what crates above cite.
 pub mod SameNumbers
 pub mod Demand
+pub mod Earlier
 mod Determined
 mod RefusedKeeps

@@ -8,7 +8,7 @@ use Rattle.joint.proofs.SameNumbers.{joint-posts, posted-bare}
 use Rattle.joint.proofs.joint.Reads as joint-reads
 use Rattle.joint.proofs.joint.Kinds as joint-kinds
 
-joint-refused-keeps : RefusedBare 4 joint-kinds.ps joint-kinds.r (λ κs j. j .hour .refusal) (λ κs b k. refusedBeside (monthGiven b) k) joint-reads.Post
+joint-refused-keeps : RefusedBare 5 joint-kinds.ps joint-kinds.r (λ κs j. j .hour .refusal) (λ κs b k. refusedBeside (monthGiven b) k) joint-reads.Post
 joint-refused-keeps κs b j e p f =
     let posts = joint-posts κs b j e p in
     let told = ap (λ (x : Joined). x .hour .refusal) posts in

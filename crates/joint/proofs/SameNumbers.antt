@@ -70,13 +70,13 @@ module _ (worked : Settlement) (m : Month) (d x : ℕ) where
 
 -- ---- over the contracts
 
-module _ (κs : Lfts 4) (b : Dens κs joint-kinds.ps) (j : Joined) (e : AtExit (endedOf 4 joint-kinds.ps joint-kinds.r) κs) (met : joint-reads.Post κs b j e) where
+module _ (κs : Lfts 5) (b : Dens κs joint-kinds.ps) (j : Joined) (e : AtExit (endedOf 5 joint-kinds.ps joint-kinds.r) κs) (met : joint-reads.Post κs b j e) where
   -- the answer is what it works out, posted
   pub joint-posts : j ≡ postedOf (workedBy (jointHanded b)) (monthGiven b) (dayGiven b) (hourGiven b)
   unfolding jointOf
   joint-posts = met
 
-  joint-granted : j .hour .refusal ≡ 0 → (workedBy (jointHanded b) .refusal ≡ 0) × (j .hour ≡ workedBy (jointHanded b))
+  pub joint-granted : j .hour .refusal ≡ 0 → (workedBy (jointHanded b) .refusal ≡ 0) × (j .hour ≡ workedBy (jointHanded b))
   joint-granted z =
       let posts = ap (λ (x : Joined). x .hour) joint-posts in
       let g = posted-granted (workedBy (jointHanded b)) (monthGiven b) _ _ (sym (ap (λ (x : Settlement). x .refusal) posts) ∙ z) in
@@ -91,8 +91,8 @@ module _ (κs : Lfts 4) (b : Dens κs joint-kinds.ps) (j : Joined) (e : AtExit (
       subst (Accepted h (scoresOf h)) (sym (g .1 ∙ hour-granted h secondsOfHour none))
       (settled-accepted h secondsOfHour (fit h secondsOfHour none) (five-targets (b .1 .1 .1 .0) _ (good .1 .1 .1 .0)))
 
-module _ (κs : Lfts 5) (a : Dens κs hour-kinds.ps) (r : Settlement) (s : AtExit (endedOf 5 hour-kinds.ps hour-kinds.r) κs) (p : hour-reads.Post κs a r s)
-    (ηs : Lfts 4) (b : Dens ηs joint-kinds.ps) (j : Joined) (e : AtExit (endedOf 4 joint-kinds.ps joint-kinds.r) ηs) (q : joint-reads.Post ηs b j e) (same : SameHour (hourHanded κs a) (hourRun κs a) (jointHanded b)) where
+module _ (κs : Lfts 6) (a : Dens κs hour-kinds.ps) (r : Settlement) (s : AtExit (endedOf 6 hour-kinds.ps hour-kinds.r) κs) (p : hour-reads.Post κs a r s)
+    (ηs : Lfts 5) (b : Dens ηs joint-kinds.ps) (j : Joined) (e : AtExit (endedOf 5 joint-kinds.ps joint-kinds.r) ηs) (q : joint-reads.Post ηs b j e) (same : SameHour (hourHanded κs a) (hourRun κs a) (jointHanded b)) where
   worked-is : r ≡ workedBy (jointHanded b)
   worked-is = p .0 ∙ (λ i. hourAnswer (same .hour i) (same .run i))
 

@@ -8,19 +8,19 @@ use Rattle.hour.specs.Hour.{WholeHour, eDRegHour}
 use Rattle.hour.specs.declared.Terms.{Terms}
 use Rattle.hour.specs.declared.Shift.{Shift}
 
--- the arguments in their order: powers, frequencies, terms, shift, thresholds and factors; month, day and hour
+-- the arguments in their order: powers, frequencies, terms, shift, thresholds, factors and earlier scores; month, day and hour
 abbrev pub JointGiven : Type 0
-JointGiven = RefT (List ℤ) × (RefT (List ℤ) × (Terms × (Shift × (RefT (List ℤ) × (RefT (List ℤ) × (Month × (ℕ × (ℕ × Unit {0}))))))))
+JointGiven = RefT (List ℤ) × (RefT (List ℤ) × (Terms × (Shift × (RefT (List ℤ) × (RefT (List ℤ) × (RefT (List ℕ) × (Month × (ℕ × (ℕ × Unit {0})))))))))
 
 -- the hour to work out, and the month, the day and the hour to post it on
 abbrev pub jointHanded : JointGiven → WholeHour
-jointHanded b = eDRegHour (now (b .0)) (now (b .1 .0)) (b .1 .1 .0) (b .1 .1 .1 .0) (now (b .1 .1 .1 .1 .0)) (now (b .1 .1 .1 .1 .1 .0))
+jointHanded b = eDRegHour (now (b .0)) (now (b .1 .0)) (b .1 .1 .0) (b .1 .1 .1 .0) (now (b .1 .1 .1 .1 .0)) (now (b .1 .1 .1 .1 .1 .0)) (now (b .1 .1 .1 .1 .1 .1 .0))
 
 abbrev pub monthGiven : JointGiven → Month
-monthGiven b = b .1 .1 .1 .1 .1 .1 .0
+monthGiven b = b .1 .1 .1 .1 .1 .1 .1 .0
 
 abbrev pub dayGiven : JointGiven → ℕ
-dayGiven b = b .1 .1 .1 .1 .1 .1 .1 .0
+dayGiven b = b .1 .1 .1 .1 .1 .1 .1 .1 .0
 
 abbrev pub hourGiven : JointGiven → ℕ
-hourGiven b = b .1 .1 .1 .1 .1 .1 .1 .1 .0
+hourGiven b = b .1 .1 .1 .1 .1 .1 .1 .1 .1 .0

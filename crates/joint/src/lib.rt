@@ -27,11 +27,12 @@ pub fn joint(
     shift: Shift,
     thresholds: &[i64],
     factors: &[i64],
+    earlier: &[u8],
     month: Month,
     day: u8,
     hour: u8,
 ) -> Joined
-    ensures { λ r. ⌜ r ≡ jointOf (eDRegHour (now (powers .entry)) (now (frequencies .entry)) terms shift (now (thresholds .entry)) (now (factors .entry))) month day hour ⌝ }
+    ensures { λ r. ⌜ r ≡ jointOf (eDRegHour (now (powers .entry)) (now (frequencies .entry)) terms shift (now (thresholds .entry)) (now (factors .entry)) (now (earlier .entry))) month day hour ⌝ }
 {
     let mut scores: [u8; limits::SECONDS] = [0; limits::SECONDS];
     let worked = hour::hour(
@@ -41,6 +42,7 @@ pub fn joint(
         shift,
         thresholds,
         factors,
+        earlier,
         &mut scores,
     );
     posted(worked, month, day, hour)

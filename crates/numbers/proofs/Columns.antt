@@ -11,7 +11,7 @@ use Rattle.numbers.specs.Numbers.{number, column}
 
 -- the front of a run by a rule
 module _ {A : Type 0} (f : ℕ → A) where
-  take-listed : (i n m : ℕ) → n ≤ m → take n (listed f i m) ≡ listed f i n
+  pub take-listed : (i n m : ℕ) → n ≤ m → take n (listed f i m) ≡ listed f i n
   take-listed i zero m h = refl
   take-listed i (suc n) zero h = absurd (not-suc-le-zero h)
   take-listed i (suc n) (suc m) h = ap (λ (l : List A). f i ∷ l) (take-listed (suc i) n m (le-of-suc-le-suc h))

@@ -1,3 +1,4 @@
 -- A question's numbers.
 pub mod Numbers
 pub mod Shapes
+pub mod Inner

@@ -3,8 +3,9 @@ ghost use Prim.Native.Nat.{_≤_};
 ghost use mathlib.Core.Path.{_≡_};
 ghost use lib.ListN.{length};
 ghost use Rattle.whole.specs.Choice.{pick};
-ghost use Rattle.numbers.specs.Numbers.{byteOf, column};
+ghost use Rattle.numbers.specs.Numbers.{byteOf, asBytes, column};
 ghost use Rattle.numbers.specs.Shapes.{cutOf};
+ghost use Rattle.numbers.specs.Inner.{firstFour};
 use words::Shape;
 
 mod cutting;
@@ -25,6 +26,13 @@ pub struct Places {
     pub third: Span,
     pub fourth: Span,
     pub tail: usize,
+}
+
+// The scores before an hour, as a question has them: how many, and the scores as bytes. Of more than four it has the
+// first four: an hour takes none or three, and any other number is refused whatever they say.
+pub struct Earlier {
+    pub count: usize,
+    pub scores: [u8; 4],
 }
 
 // Cuts a question's numbers by their shape.
@@ -56,6 +64,28 @@ pub fn byte_of(z: i64) -> u8
         return z as u8;
     }
     255
+}
+
+// Fills a run with numbers as bytes, zeros past their end.
+pub fn fill_bytes(numbers: &[i64], run: &mut [u8])
+    ensures { λ _. ⌜ now (run .exit) ≡ asBytes (now (numbers .entry)) (length (now (run .entry))) ⌝ }
+{
+    let mut i = 0;
+    while i < run.len() {
+        run[i] = byte_of(whole::at(numbers, i));
+        i += 1;
+    }
+}
+
+// Earlier scores, as bytes.
+pub fn first_four(numbers: &[i64]) -> Earlier
+    ensures { λ r. ⌜ r ≡ firstFour (now (numbers .entry)) ⌝ }
+{
+    let mut scores = [0u8; 4];
+    fill_bytes(numbers, &mut scores);
+    let n = numbers.len();
+    let count = if n < 4 { n } else { 4 };
+    Earlier { count, scores }
 }
 
 // Fills a run with the first or the second number of each pair, zeros past their end.

@@ -24,7 +24,7 @@ use Rattle.numbers.specs.Numbers.{number}
 use Rattle.words.specs.declared.Hour.the-variants.{Dreg, Edreg}
 use Rattle.words.specs.declared.Series.{Series}
 use Rattle.words.specs.declared.Series.the-variants.{Ramp, DregScores, EdregScores}
-use Rattle.hours.specs.Hours.{Basis, hourAsked, settlement, scoresReply}
+use Rattle.hours.specs.Hours.{HourNumbers, Basis, hourAsked, settlement, scoresReply}
 use Rattle.hours.proofs.HourLaws.{scores-all, score-small}
 use Rattle.series.specs.Series.{rampReply, seriesReply}
 use Rattle.text.specs.Text.{signedText, put}
@@ -103,11 +103,12 @@ hour-short h =
     scores-short (settlement h .refusal) (length (h .hour .powers)) _ (λ z. sym (length-listed _ 0 _) ∙ scores-all h z) (λ i. omega (arith, score-small (h .hour) i))
 
 -- the fields of a run: at most 900, or short
-pub series-short : (asks : Series) (n bands readings : List ℤ) → let fields = seriesReply asks n bands readings .fields in Short fields
+pub series-short : (asks : Series) (given : HourNumbers) → Short (seriesReply asks given .fields)
 unfolding rampReply scoresReply
-series-short Ramp n bands readings =
+series-short Ramp given =
+    let n = given .terms in
     let quarter : length (rampOf (number n 0) (number n 1)) ≤ secondsOfQuarter = omega (arith, ramp-ramped (number n 0) (number n 1) .seconds) in
     let none : length {A = ℤ} [] ≤ secondsOfQuarter = omega arith in
     few-fields (rampReply n .fields) (kept-any (λ (l : List ℤ). length l ≤ secondsOfQuarter) (rampRefusal (kilowatts (number n 0)) (kilowatts (number n 1)) secondsOfQuarter) {new = rampOf (number n 0) (number n 1)} {old = []} (λ z. quarter) none)
-series-short DregScores n bands readings = λ t. hour-short (hourAsked Dreg n bands readings)
-series-short EdregScores n bands readings = λ t. hour-short (hourAsked Edreg n bands readings)
+series-short DregScores given = λ t. hour-short (hourAsked Dreg given)
+series-short EdregScores given = λ t. hour-short (hourAsked Edreg given)

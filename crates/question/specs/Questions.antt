@@ -12,33 +12,37 @@ use Rattle.words.specs.Replies.{Reply, reply}
 use Rattle.words.specs.declared.Question.{Question}
 use Rattle.words.specs.declared.Question.the-variants as asks
 use Rattle.numbers.specs.declared.Places.{Places}
+use Rattle.words.specs.declared.Rule.{Rule}
 use Rattle.words.specs.declared.Hour.{Hour}
 use Rattle.words.specs.declared.Series.{Series}
 use Rattle.words.specs.declared.Framing.{Framing}
 use Rattle.rules.specs.Rules.{ruleReply}
 use Rattle.hours.specs.Hours.{hourReply}
 use Rattle.series.specs.Series.{seriesReply}
-use Rattle.question.specs.Parts.{headOf, bandsIn}
+use Rattle.question.specs.Parts.{headOf, entriesIn, givenIn}
 use Rattle.fault_lines.specs.Text.{faultText}
 use Rattle.question.specs.Lines.{lineText}
 use Rattle.frame_lines.specs.Text.{frameText}
 use Rattle.frames.specs.Frames.{frameAnswer}
 use Rattle.frames.specs.declared.Framed.{Framed}
 
--- the answer to an hour's question, by the numbers and the places of their parts; and to one about a run
+-- the answer to a rule's question, by the numbers and the places of their parts, whose first list are earlier scores; to an hour's; and to one about a run
+abbrev pub rulePrints : Rule → List ℤ → Places → Reply
+rulePrints rule n places = ruleReply rule (headOf n) (places .first .counted) (entriesIn n (places .first)) (drop (places .tail) n)
+
 abbrev pub hourPrints : Hour → List ℤ → Places → Reply
-hourPrints hour n places = hourReply hour (headOf n) (bandsIn n places) (drop (places .tail) n)
+hourPrints hour n places = hourReply hour (givenIn (headOf n) n places)
 
 abbrev pub seriesPrints : Series → List ℤ → Places → Reply
-seriesPrints asks n places = seriesReply asks (headOf n) (bandsIn n places) (drop (places .tail) n)
+seriesPrints asks n places = seriesReply asks (givenIn (headOf n) n places)
 
 -- a frame, or two; where it is an hour's, the hour's terms stand after its day and its hour
 abbrev pub framePrints : Framing → List ℤ → Places → Framed
-framePrints asks n places = frameAnswer asks (headOf n) (headOf (drop 2 n)) (bandsIn n places) (drop (places .tail) n)
+framePrints asks n places = frameAnswer asks (headOf n) (givenIn (headOf (drop 2 n)) n places)
 
 -- the answer, by the numbers and the places of their parts
 abbrev pub answerText : Question → List ℤ → Places → List ℕ
-answerText (asks.Rule r) n places = lineText (ruleReply r (headOf n) (drop (places .tail) n))
+answerText (asks.Rule r) n places = lineText (rulePrints r n places)
 answerText (asks.Hour h) n places = lineText (hourPrints h n places)
 answerText (asks.Series r) n places = lineText (seriesPrints r n places)
 answerText (asks.Frame f) n places = frameText (framePrints f n places)

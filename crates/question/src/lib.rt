@@ -1,15 +1,13 @@
 // The program `desk` between its reading and its printing: a question's word and numbers in, its lines of text out.
 ghost use Prim.Native.Nat.{_≤_};
 ghost use mathlib.Core.Path.{_≡_};
-ghost use lib.ListN.{length, drop};
+ghost use lib.ListN.{length};
 ghost use Rattle.text.specs.Text.{put};
 ghost use Rattle.words.specs.Inner.{unboxed};
-ghost use Rattle.rules.specs.Rules.{ruleReply};
 ghost use Rattle.frame_lines.specs.Text.{frameText};
 ghost use Rattle.question.specs.Lines.{lineText};
 ghost use Rattle.question.specs.Inner.{room, answered, printed};
-ghost use Rattle.question.specs.Parts.{headOf};
-ghost use Rattle.question.specs.Questions.{hourPrints, seriesPrints, framePrints, answerText, toldLine, questionText, replyText};
+ghost use Rattle.question.specs.Questions.{rulePrints, hourPrints, seriesPrints, framePrints, answerText, toldLine, questionText, replyText};
 use numbers::Places;
 use units::limits;
 use units::refusals;
@@ -104,7 +102,7 @@ fn put_answer(question: Question, numbers: &[i64], places: Places, out: &mut [u8
     ensures short { λ r. ⌜ r ≤ room ⌝ }
 {
     match question {
-        Question::Rule(rule) => put_rule(rule, numbers, places.tail, out),
+        Question::Rule(rule) => put_rule(rule, numbers, places, out),
         Question::Hour(hour) => put_hour(hour, numbers, places, out),
         Question::Series(asks) => put_series(asks, numbers, places, out),
         Question::Frame(asks) => put_framed(asks, numbers, places, out),
@@ -115,14 +113,20 @@ fn put_answer(question: Question, numbers: &[i64], places: Places, out: &mut [u8
     }
 }
 
-fn put_rule(rule: Rule, numbers: &[i64], tail: usize, out: &mut [u8]) -> usize
+fn put_rule(rule: Rule, numbers: &[i64], places: Places, out: &mut [u8]) -> usize
     requires { ⌜ room ≤ length (now out) ⌝ }
-    ensures place { λ r. ⌜ r ≡ length (lineText (ruleReply rule (headOf (now (numbers .entry))) (drop tail (now (numbers .entry))))) ⌝ }
-    ensures text { λ r. ⌜ now (out .exit) ≡ put (now (out .entry)) 0 (lineText (ruleReply rule (headOf (now (numbers .entry))) (drop tail (now (numbers .entry))))) ⌝ }
+    ensures place { λ r. ⌜ r ≡ length (lineText (rulePrints rule (now (numbers .entry)) places)) ⌝ }
+    ensures text { λ r. ⌜ now (out .exit) ≡ put (now (out .entry)) 0 (lineText (rulePrints rule (now (numbers .entry)) places)) ⌝ }
     ensures short { λ r. ⌜ r ≤ room ⌝ }
 {
-    let head = parts::head_of(numbers);
-    let few = rules::answer(rule, head, parts::rest(numbers, tail));
+    let first = places.first;
+    let few = rules::answer(
+        rule,
+        parts::head_of(numbers),
+        first.counted,
+        parts::part(numbers, first.start, first.end),
+        parts::rest(numbers, places.tail),
+    );
     put_few(few, out)
 }
 
@@ -146,10 +150,13 @@ fn put_hour(hour: Hour, numbers: &[i64], places: Places, out: &mut [u8]) -> usiz
     ensures short { λ r. ⌜ r ≤ room ⌝ }
 {
     let first = places.first;
+    let second = places.second;
     let few = hours::answer(
         hour,
         parts::head_of(numbers),
         parts::part(numbers, first.start, first.end),
+        second.counted,
+        parts::part(numbers, second.start, second.end),
         parts::rest(numbers, places.tail),
     );
     put_few(few, out)
@@ -163,10 +170,13 @@ fn put_series(asks: Series, numbers: &[i64], places: Places, out: &mut [u8]) -> 
 {
     let mut fields = [0i64; limits::SECONDS];
     let first = places.first;
+    let second = places.second;
     let ran = series::answer(
         asks,
         parts::head_of(numbers),
         parts::part(numbers, first.start, first.end),
+        second.counted,
+        parts::part(numbers, second.start, second.end),
         parts::rest(numbers, places.tail),
         &mut fields,
     );
@@ -181,11 +191,14 @@ fn put_framed(asks: Framing, numbers: &[i64], places: Places, out: &mut [u8]) ->
     ensures short { λ r. ⌜ r ≤ room ⌝ }
 {
     let first = places.first;
+    let second = places.second;
     let framed = frames::answer(
         asks,
         parts::head_of(numbers),
         parts::head_of(parts::rest(numbers, 2)),
         parts::part(numbers, first.start, first.end),
+        second.counted,
+        parts::part(numbers, second.start, second.end),
         parts::rest(numbers, places.tail),
     );
     frame_lines::put_frames(framed, out)

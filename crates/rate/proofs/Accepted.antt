@@ -2,7 +2,7 @@
 -- refusal. Assumes nothing.
 use mathlib.Core.Path.{_≡_, _∙_}
 use Prim.Native.Nat.{ℕ}
-use mathlib.Core.List.{List, []}
+use mathlib.Core.List.{List}
 use contract.Lifetimes.{Lfts}
 use denote.Ref.{RefT, now}
 use denote.Triple.Clauses.{AtExit}
@@ -14,6 +14,6 @@ use Rattle.rate.specs.Accepted.{ScoresFit}
 use Rattle.rate.proofs.hourly_rate.Reads as hourly-rate
 use Rattle.rate.proofs.hourly_rate.Kinds as hourly-rate-kinds
 
-pub hourly-rate-accepted : (κs : Lfts 1) (scores : RefT (List ℕ)) (x : Rated) (s : AtExit (endedOf 1 hourly-rate-kinds.ps hourly-rate-kinds.r) κs)
-    → hourly-rate.Post κs (scores, tt) x s → ScoresFit (now scores) → x ≡ record { refusal = 0; rate = smallest (rolling [] (now scores)) }
-hourly-rate-accepted κs scores x s p f = p ∙ rate-granted (now scores) f
+pub hourly-rate-accepted : (κs : Lfts 2) (earlier scores : RefT (List ℕ)) (x : Rated) (s : AtExit (endedOf 2 hourly-rate-kinds.ps hourly-rate-kinds.r) κs)
+    → hourly-rate.Post κs (earlier, (scores, tt)) x s → ScoresFit (now earlier) (now scores) → x ≡ record { refusal = 0; rate = smallest (rolling (now earlier) (now scores)) }
+hourly-rate-accepted κs earlier scores x s p f = p ∙ rate-granted (now earlier) (now scores) f

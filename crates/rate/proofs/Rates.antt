@@ -1,20 +1,21 @@
 -- What an hour's rate is, for the crates above: at most 100 whatever was handed in, and the smallest rolling rate where it is not refused. The
 -- rolling rates are those of one pass that carries three scores, a missing one as 0; by induction on the scores. Assumes nothing.
 use Prim.Native.Nat.{ℕ, zero, suc, _+_, _≤_, _<_, min, max, zero-le}
-use mathlib.Core.Path.{_≡_, refl, sym, ap, _∙_}
-use mathlib.Core.Bool.{true, false}
+use mathlib.Core.Path.{_≡_, refl, sym, ap, ap₂, _∙_}
+use mathlib.Core.Bool.{Bool, true, false, _&&_}
 use mathlib.Core.List.{List, [], _∷_, map, reverse}
 use native.Mathlib.Nat.{max-zero, not-suc-le-zero}
 use native.Mathlib.Omega.{arith}
 use lib.Dec.{eqb}
 use lib.ListN.{length, take, getD}
-use borrow.Author.Tests.{eqb-true, eq-eqb, leb-true, le-leb}
-use Rattle.whole.proofs.Choice.{by-test, all-passed}
+use borrow.Author.Tests.{eqb-true, eq-eqb, ne-eqb, leb-true, le-leb}
+use Rattle.whole.specs.Choice.{inOrder}
+use Rattle.whole.proofs.Choice.{clash, both, and-both, by-test, all-passed, passed-all, kept-old}
 use Rattle.whole.proofs.Folds.{all-at, all-of}
 use Rattle.units.specs.Refusals.{wrongLength, badReading}
-use Rattle.units.specs.Limits.{mostScore, secondsOfHour}
-use Rattle.rate.specs.Rolling.{windows, largest, smallest, smallestFrom, rolling, isScoreAt, areScores, scoresRefusal, hourlyRate}
-use Rattle.rate.specs.Inner.{carried, rateAfter}
+use Rattle.units.specs.Limits.{mostScore, earlierScores, secondsOfHour}
+use Rattle.rate.specs.Rolling.{windows, largest, smallest, smallestFrom, rolling, earlierFit, isScoreAt, areScores, scoresRefusal, noRate, hourlyRate}
+use Rattle.rate.specs.Inner.{carried, rateAfter, earlierRefusal}
 use Rattle.rate.specs.declared.Rated.{Rated}
 use Rattle.rate.specs.Accepted.{ScoresFit}
 
@@ -28,7 +29,7 @@ four x (a ∷ b ∷ c ∷ back) = rw max-zero
 
 pass : (back xs : List ℕ) → map largest (windows back xs) ≡ carried (getD back 0 0) (getD back 1 0) (getD back 2 0) xs
 pass back [] = refl
-pass back (x ∷ xs) = rw (four x back, pass (x ∷ back) xs)
+pass back (x ∷ xs) = ap₂ _∷_ (four x back) (pass (x ∷ back) xs)
 
 pub rolling-carried : (earlier scores : List ℕ) → rolling earlier scores
     ≡ carried (getD (reverse earlier) 0 0) (getD (reverse earlier) 1 0) (getD (reverse earlier) 2 0) scores
@@ -53,7 +54,7 @@ rolling-at earlier scores t h =
     let one : t + 1 ≡ suc t = omega arith in
     rw (rolling-carried earlier scores, three, two, one) (fourth _ _ _ scores t (omega arith))
 
--- "The windows of seconds 1, 2 and 3 hold only this hour's seconds": the rolling rates of an hour that begins with the scores x₁ x₂ x₃
+-- "0, which leaves the windows short": the rolling rates of an hour that begins with the scores x₁ x₂ x₃, where its windows hold only its own seconds
 pub record Windows (x₁ x₂ x₃ : ℕ) (scores : List ℕ) : Type 0 where
   pub second-1 : getD (rolling [] scores) 0 0 ≡ x₁
   pub second-2 : getD (rolling [] scores) 1 0 ≡ max x₁ x₂
@@ -120,52 +121,126 @@ from-100 a b c (x ∷ xs) ha hb hc l e =
     let same : min mostScore (max x (max a (max b c))) ≡ max x (max a (max b c)) = omega arith in
     ap (λ (m : ℕ). smallestFrom m (carried x a b xs)) same
 
+-- ---- the earlier scores
+
+-- none, or three, oldest first
+pub data NoneOrThree : List ℕ → Type 0 where
+  no-score : NoneOrThree []
+  three-scores : (a b c : ℕ) → NoneOrThree (a ∷ b ∷ c ∷ [])
+
+-- an hour takes no more than three
+pub more-unfit : (n : ℕ) → earlierScores < n → earlierFit n ≡ false
+more-unfit n h = rw (ne-eqb n 0 (λ z. absurd (omega arith)), ne-eqb n earlierScores (λ z. absurd (omega arith)))
+
+pub none-or-three : (earlier : List ℕ) → earlierFit (length earlier) ≡ true → NoneOrThree earlier
+none-or-three [] e = no-score
+none-or-three (a ∷ []) e = clash e
+none-or-three (a ∷ b ∷ []) e = clash e
+none-or-three (a ∷ b ∷ c ∷ []) e = three-scores a b c
+none-or-three (a ∷ b ∷ c ∷ d ∷ rest) e = clash (sym (more-unfit (length (a ∷ b ∷ c ∷ d ∷ rest)) (omega arith)) ∙ e)
+
+-- what a pass over the scores begins with: the three before, newest first, a missing one as 0
+abbrev pub lastOf : List ℕ → ℕ
+lastOf earlier = getD (reverse earlier) 0 0
+
+abbrev pub secondOf : List ℕ → ℕ
+secondOf earlier = getD (reverse earlier) 1 0
+
+abbrev pub thirdOf : List ℕ → ℕ
+thirdOf earlier = getD (reverse earlier) 2 0
+
+pub of-three : (earlier scores : List ℕ) → NoneOrThree earlier → length earlier ≡ earlierScores
+    → rateAfter (getD earlier 2 0) (getD earlier 1 0) (getD earlier 0 0) scores ≡ rateAfter (lastOf earlier) (secondOf earlier) (thirdOf earlier) scores
+of-three _ scores no-score e = absurd (omega arith)
+of-three _ scores (three-scores a b c) e = refl
+
+pub of-none : (earlier scores : List ℕ) → NoneOrThree earlier → (length earlier ≡ earlierScores → ⊥)
+    → rateAfter 0 0 0 scores ≡ rateAfter (lastOf earlier) (secondOf earlier) (thirdOf earlier) scores
+of-none _ scores no-score n = refl
+of-none _ scores (three-scores a b c) n = absurd (n refl)
+
+-- as a pass begins, so it may begin at 100
+begins : (earlier scores : List ℕ) → NoneOrThree earlier → areScores earlier ≡ true → 0 < length scores → areScores scores ≡ true
+    → smallestFrom mostScore (carried (lastOf earlier) (secondOf earlier) (thirdOf earlier) scores) ≡ smallest (carried (lastOf earlier) (secondOf earlier) (thirdOf earlier) scores)
+begins _ scores no-score before l small = from-100 0 0 0 scores zero-le zero-le zero-le l small
+begins _ scores (three-scores a b c) before l small =
+    let at = score-at (a ∷ b ∷ c ∷ []) in from-100 c b a scores (at 2 before (omega arith)) (at 1 before (omega arith)) (at 0 before (omega arith)) l small
+
 -- ---- the hourly rate
 
-module _ (scores : List ℕ) where
-  pub scores-fit : scoresRefusal scores ≡ 0 → ScoresFit scores
+module _ (earlier scores : List ℕ) where
+  abbrev tests : List (Bool × ℕ)
+  tests = (eqb (length scores) secondsOfHour && earlierFit (length earlier), wrongLength) ∷ (areScores earlier && areScores scores, badReading) ∷ []
+
+  pub scores-fit : scoresRefusal earlier scores ≡ 0 → ScoresFit earlier scores
   unfolding scoresRefusal
   scores-fit e =
-      let p = all-passed ((eqb (length scores) secondsOfHour, wrongLength) ∷ (areScores scores, badReading) ∷ []) refl e in
-      record { long = eqb-true (length scores) secondsOfHour (p .0); small = p .1 .0 }
+      let p = all-passed tests refl e in
+      let l = and-both (eqb (length scores) secondsOfHour) (earlierFit (length earlier)) (p .0) in
+      let b = and-both (areScores earlier) (areScores scores) (p .1 .0) in
+      record { long = eqb-true (length scores) secondsOfHour (l .0); counted = l .1; before = b .0; small = b .1 }
 
-  pub fit-scores : ScoresFit scores → scoresRefusal scores ≡ 0
+  pub fit-scores : ScoresFit earlier scores → scoresRefusal earlier scores ≡ 0
   unfolding scoresRefusal
-  fit-scores f = rw (eq-eqb (length scores) secondsOfHour (f .long), f .small)
+  fit-scores f = passed-all tests (both (eq-eqb (length scores) secondsOfHour (f .long)) (f .counted), (both (f .before) (f .small), tt))
 
   -- the smallest rolling rate, as one pass finds it
-  pub rate-carried : ScoresFit scores → smallestFrom mostScore (carried 0 0 0 scores) ≡ smallest (rolling [] scores)
+  pub rate-carried : ScoresFit earlier scores → smallestFrom mostScore (carried (lastOf earlier) (secondOf earlier) (thirdOf earlier) scores) ≡ smallest (rolling earlier scores)
   rate-carried f =
       let l = f .long in
-      rw (rolling-carried [] scores) (from-100 0 0 0 scores zero-le zero-le zero-le (omega arith) (f .small))
+      rw (rolling-carried earlier scores) (begins earlier scores (none-or-three earlier (f .counted)) (f .before) (omega arith) (f .small))
 
-  pub rate-granted : ScoresFit scores → hourlyRate scores ≡ record { refusal = 0; rate = smallest (rolling [] scores) }
+  pub rate-granted : ScoresFit earlier scores → hourlyRate earlier scores ≡ record { refusal = 0; rate = smallest (rolling earlier scores) }
   unfolding hourlyRate
   rate-granted f = rw (eq-eqb _ 0 (fit-scores f))
 
-  pub rate-refusal : hourlyRate scores .refusal ≡ scoresRefusal scores
+  pub rate-refused : (scoresRefusal earlier scores ≡ 0 → ⊥) → hourlyRate earlier scores ≡ noRate (scoresRefusal earlier scores)
+  unfolding hourlyRate
+  rate-refused n = kept-old _ _ n
+
+  pub rate-refusal : hourlyRate earlier scores .refusal ≡ scoresRefusal earlier scores
   unfolding hourlyRate
   rate-refusal =
-      by-test (eqb (scoresRefusal scores) 0)
-      (λ (t : eqb (scoresRefusal scores) 0 ≡ true). rw t (sym (eqb-true (scoresRefusal scores) 0 t)))
-      (λ (t : eqb (scoresRefusal scores) 0 ≡ false). rw t)
+      let k = scoresRefusal earlier scores in
+      by-test (eqb k 0) (λ (t : eqb k 0 ≡ true). rw t (sym (eqb-true k 0 t))) (λ (t : eqb k 0 ≡ false). rw t)
 
-  pub rate-is : hourlyRate scores .refusal ≡ 0 → hourlyRate scores .rate ≡ smallest (rolling [] scores)
+  pub rate-is : hourlyRate earlier scores .refusal ≡ 0 → hourlyRate earlier scores .rate ≡ smallest (rolling earlier scores)
   rate-is e = ap (λ (r : Rated). r .rate) (rate-granted (scores-fit (sym rate-refusal ∙ e)))
 
-  pub rate-within : hourlyRate scores .rate ≤ mostScore
+  pub rate-within : hourlyRate earlier scores .rate ≤ mostScore
   unfolding hourlyRate
   rate-within =
-      by-test (eqb (scoresRefusal scores) 0)
-      (λ (t : eqb (scoresRefusal scores) 0 ≡ true).
-      let e = rate-carried (scores-fit (eqb-true (scoresRefusal scores) 0 t)) in
-      rw (t, sym e) (smallest-le mostScore (carried 0 0 0 scores)))
-      (λ (t : eqb (scoresRefusal scores) 0 ≡ false). rw t (omega arith))
+      let k = scoresRefusal earlier scores in
+      by-test (eqb k 0)
+      (λ (t : eqb k 0 ≡ true). rw (t, sym (rate-carried (scores-fit (eqb-true k 0 t)))) (smallest-le mostScore (carried (lastOf earlier) (secondOf earlier) (thirdOf earlier) scores)))
+      (λ (t : eqb k 0 ≡ false). rw t (omega arith))
 
-  -- what one pass answers for an hour's scores, fit or not
-  pub rate-after-is : length scores ≡ secondsOfHour → rateAfter 0 0 0 scores ≡ hourlyRate scores
-  unfolding rateAfter hourlyRate scoresRefusal
-  rate-after-is long =
+  -- what is refused before the pass
+  abbrev before : List (Bool × ℕ)
+  before = (eqb (length scores) secondsOfHour && earlierFit (length earlier), wrongLength) ∷ (areScores earlier, badReading) ∷ []
+
+  pub before-refused : (earlierRefusal earlier (length scores) ≡ 0 → ⊥) → noRate (earlierRefusal earlier (length scores)) ≡ hourlyRate earlier scores
+  unfolding hourlyRate scoresRefusal earlierRefusal
+  before-refused n =
+      let lengths = eqb (length scores) secondsOfHour && earlierFit (length earlier) in
+      by-test lengths
+      (λ (t : lengths ≡ true). by-test (areScores earlier) (λ (a : areScores earlier ≡ true). absurd (n (rw (t, a)))) (λ (a : areScores earlier ≡ false). rw (t, a)))
+      (λ (t : lengths ≡ false). rw t)
+
+  pub before-fine : earlierRefusal earlier (length scores) ≡ 0 → (length scores ≡ secondsOfHour) × (NoneOrThree earlier) × (areScores earlier ≡ true)
+  unfolding earlierRefusal
+  before-fine e =
+      let p = all-passed before refl e in
+      let l = and-both (eqb (length scores) secondsOfHour) (earlierFit (length earlier)) (p .0) in
+      (eqb-true (length scores) secondsOfHour (l .0), none-or-three earlier (l .1), p .1 .0)
+
+  -- and what the pass answers where nothing is, for scores that fit or not
+  pub rate-after-is : earlierRefusal earlier (length scores) ≡ 0 → rateAfter (lastOf earlier) (secondOf earlier) (thirdOf earlier) scores ≡ hourlyRate earlier scores
+  unfolding rateAfter hourlyRate scoresRefusal earlierRefusal
+  rate-after-is e =
+      let p = all-passed before refl e in
+      let l = and-both (eqb (length scores) secondsOfHour) (earlierFit (length earlier)) (p .0) in
       by-test (areScores scores)
-      (λ (t : areScores scores ≡ true). rw (t, eq-eqb (length scores) secondsOfHour long, rate-carried (record { long = long; small = t })))
-      (λ (t : areScores scores ≡ false). rw (t, eq-eqb (length scores) secondsOfHour long))
+      (λ (t : areScores scores ≡ true).
+      rw (t, p .0, p .1 .0, rate-carried (record { long = eqb-true (length scores) secondsOfHour (l .0); counted = l .1; before = p .1 .0; small = t })))
+      (λ (t : areScores scores ≡ false). rw (t, p .0, p .1 .0))

@@ -5,8 +5,10 @@ use mathlib.Core.Bool.{true}
 use mathlib.Core.List.{List}
 use lib.ListN.{length}
 use Rattle.units.specs.Limits.{secondsOfHour}
-use Rattle.rate.specs.Rolling.{areScores}
+use Rattle.rate.specs.Rolling.{earlierFit, areScores}
 
-pub record ScoresFit (scores : List ℕ) : Type 0 where
+pub record ScoresFit (earlier scores : List ℕ) : Type 0 where
   pub long : length scores ≡ secondsOfHour
+  pub counted : earlierFit (length earlier) ≡ true
+  pub before : areScores earlier ≡ true
   pub small : areScores scores ≡ true

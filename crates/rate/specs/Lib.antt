@@ -1,4 +1,5 @@
 -- An hour's rate by its scores.
 pub mod Rolling
 pub mod Accepted
+pub mod Earlier
 pub mod Inner

@@ -1,13 +1,13 @@
--- Document 01, "an hour's rate" (document 001, section 2.3): rolling rates and the hourly rate.
+-- Document 01, "an hour's rate" (document 001, section 2.3), with document 02, #102: rolling rates and the hourly rate.
 use Prim.Native.Nat.{ℕ, min, max}
-use mathlib.Core.Bool.{Bool}
+use mathlib.Core.Bool.{Bool, _&&_, _||_}
 use mathlib.Core.List.{List, [], _∷_, map, reverse}
 use lib.Dec.{eqb, leb}
 use lib.ListN.{length, take, getD}
 use Rattle.whole.specs.Choice.{inOrder, kept}
 use Rattle.whole.specs.Folds.{allTo}
 use Rattle.units.specs.Refusals.{wrongLength, badReading}
-use Rattle.units.specs.Limits.{mostScore, secondsOfHour}
+use Rattle.units.specs.Limits.{mostScore, earlierScores, secondsOfHour}
 use Rattle.rate.specs.declared.Rated.{Rated}
 
 -- the window of each second: its score and the three before it, newest first, as many as there are. `back` is what came before, newest first.
@@ -28,9 +28,14 @@ abbrev pub smallest : List ℕ → ℕ
 smallest [] = 0
 smallest (x ∷ xs) = smallestFrom x xs
 
--- the rolling rates, after the scores of the seconds before the hour; in the base there are none of those
+-- the rolling rates of an hour's scores. "If the hour before was awarded to the same battery and product, its last three scores now belong to the first
+-- three windows" (document 02, #102): the earlier scores, oldest first
 unfoldable pub rolling : List ℕ → List ℕ → List ℕ
 rolling earlier scores = map largest (windows (reverse earlier) scores)
+
+-- "The hour takes these 3 earlier scores or 0, which leaves the windows short" (document 02, #102)
+abbrev pub earlierFit : ℕ → Bool
+earlierFit count = eqb count 0 || eqb count earlierScores
 
 -- a score handed in is one
 abbrev pub isScoreAt : List ℕ → ℕ → Bool
@@ -39,15 +44,16 @@ isScoreAt scores i = leb (getD scores i 0) mostScore
 unfoldable pub areScores : List ℕ → Bool
 areScores scores = allTo (length scores) (isScoreAt scores)
 
--- 1, 4
-unfoldable pub scoresRefusal : List ℕ → ℕ
-scoresRefusal scores = inOrder ((eqb (length scores) secondsOfHour, wrongLength) ∷ (areScores scores, badReading) ∷ [])
+-- 1, 4. "any other number of scores is 1, a score above 100 is 4, both in their old places" (document 02, #102)
+unfoldable pub scoresRefusal : List ℕ → List ℕ → ℕ
+scoresRefusal earlier scores =
+    inOrder ((eqb (length scores) secondsOfHour && earlierFit (length earlier), wrongLength) ∷ (areScores earlier && areScores scores, badReading) ∷ [])
 
 abbrev pub noRate : ℕ → Rated
 noRate k = record { refusal = k; rate = 0 }
 
 -- the smallest of the 3,600 rolling rates
-unfoldable pub hourlyRate : List ℕ → Rated
-hourlyRate scores =
-    let k = scoresRefusal scores in
-    kept k (record { refusal = 0; rate = smallest (rolling [] scores) }) (noRate k)
+unfoldable pub hourlyRate : List ℕ → List ℕ → Rated
+hourlyRate earlier scores =
+    let k = scoresRefusal earlier scores in
+    kept k (record { refusal = 0; rate = smallest (rolling earlier scores) }) (noRate k)

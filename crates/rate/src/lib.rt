@@ -1,8 +1,8 @@
-// An hour's rate by its scores.
+// An hour's rate by its scores, and by the last three of the hour before.
 ghost use mathlib.Core.Path.{_≡_};
 ghost use Prim.Native.Nat.{min, max};
-ghost use Rattle.rate.specs.Rolling.{hourlyRate};
-ghost use Rattle.rate.specs.Inner.{rateAfter};
+ghost use Rattle.rate.specs.Rolling.{earlierFit, areScores, hourlyRate, noRate};
+ghost use Rattle.rate.specs.Inner.{rateAfter, earlierRefusal};
 use units::limits;
 use units::refusals;
 
@@ -12,15 +12,59 @@ pub struct Rated {
     pub rate: u8,
 }
 
-// The hourly rate of 3,600 scores: the smallest of their rolling rates.
-pub fn hourly_rate(scores: &[u8]) -> Rated
-    ensures { λ r. ⌜ r ≡ hourlyRate (now (scores .entry)) ⌝ }
+// The hourly rate of 3,600 scores: the smallest of their rolling rates. The first three look back into the earlier
+// scores: the last three of the hour before, oldest first, or none.
+pub fn hourly_rate(earlier: &[u8], scores: &[u8]) -> Rated
+    ensures { λ r. ⌜ r ≡ hourlyRate (now (earlier .entry)) (now (scores .entry)) ⌝ }
 {
-    if scores.len() == limits::SECONDS {
-        return rate_after(0, 0, 0, scores);
+    let number = earlier_refusal(earlier, scores.len());
+    if number != 0 {
+        return no_rate(number);
     }
+    if earlier.len() == limits::EARLIER {
+        let third = earlier[0];
+        let second = earlier[1];
+        let last = earlier[2];
+        return rate_after(last, second, third, scores);
+    }
+    rate_after(0, 0, 0, scores)
+}
+
+// Whether an hour takes so many earlier scores: none, or three.
+pub fn earlier_fits(count: usize) -> bool
+    ensures { λ r. ⌜ r ≡ earlierFit count ⌝ }
+{
+    (count == 0) | (count == limits::EARLIER)
+}
+
+// Whether each is a score.
+pub fn are_scores(scores: &[u8]) -> bool
+    ensures { λ r. ⌜ r ≡ areScores (now (scores .entry)) ⌝ }
+{
+    let mut all = true;
+    let mut i = 0;
+    while i < scores.len() {
+        let score = scores[i];
+        all = all & (score <= limits::SCORE);
+        i += 1;
+    }
+    all
+}
+
+// 1, 4: all but the test of the hour's own scores, which the pass over them makes.
+fn earlier_refusal(earlier: &[u8], seconds: usize) -> u8
+    ensures { λ r. ⌜ r ≡ earlierRefusal (now (earlier .entry)) seconds ⌝ }
+{
+    let scores = whole::unless(are_scores(earlier), refusals::BAD_READING, 0);
+    let lengths = (seconds == limits::SECONDS) & earlier_fits(earlier.len());
+    whole::unless(lengths, refusals::WRONG_LENGTH, scores)
+}
+
+fn no_rate(number: u8) -> Rated
+    ensures { λ r. ⌜ r ≡ noRate number ⌝ }
+{
     Rated {
-        refusal: refusals::WRONG_LENGTH,
+        refusal: number,
         rate: 0,
     }
 }
@@ -51,10 +95,7 @@ fn rate_after(last: u8, second: u8, third: u8, scores: &[u8]) -> Rated
             rate: low,
         };
     }
-    Rated {
-        refusal: refusals::BAD_READING,
-        rate: 0,
-    }
+    no_rate(refusals::BAD_READING)
 }
 
 fn smaller(a: u8, b: u8) -> u8

@@ -1,24 +1,28 @@
--- Bands and scores that are refused whatever they say, and a lookup that asks the bands alone. By cases. Assumes nothing.
+-- Bands and scores that are refused whatever they say, so that the first four earlier scores stand for all; and a lookup that asks the bands alone. By cases.
+-- Assumes nothing.
 use Prim.Native.Nat.{ℕ, _≤_, _<_, _%_}
-use mathlib.Core.Path.{_≡_, refl}
-use mathlib.Core.Bool.{true, false}
+use mathlib.Core.Path.{_≡_, refl, sym, _∙_}
+use mathlib.Core.Bool.{Bool, true, false, _&&_, and-false}
 use mathlib.Core.List.{List, [], _∷_}
 use native.Mathlib.Omega.{arith}
+use lib.Dec.{eqb}
 use lib.IntN.{ℤ, pos}
 use lib.ListN.{length}
 use borrow.Author.Tests.{ne-eqb}
 use Rattle.whole.specs.Choice.{inOrder}
 use Rattle.whole.proofs.Choice.{by-test}
-use Rattle.whole.proofs.Runs.{length-listed}
-use Rattle.units.specs.Limits.{secondsOfHour}
+use Rattle.units.specs.Limits.{earlierScores, secondsOfHour}
 use Rattle.units.specs.Refusals.{wrongLength, badBands}
-use Rattle.rate.specs.Rolling.{scoresRefusal, hourlyRate}
+use Rattle.rate.specs.Rolling.{earlierFit, scoresRefusal, noRate, hourlyRate}
+use Rattle.rate.proofs.Rates.{more-unfit}
 use Rattle.bands.specs.Bands.{bandsFit, factorRefusal, withFactor, factorAnswer}
 use Rattle.bands.proofs.Laws.{bands-fit}
-use Rattle.numbers.specs.Numbers.{number, byteOf, column}
+use Rattle.numbers.specs.Numbers.{scoresIn, column}
+use Rattle.numbers.specs.Inner.{firstFour, taken}
+use Rattle.numbers.proofs.Bytes.{four-same}
 use Rattle.words.specs.declared.Rule.{Rule}
 use Rattle.words.specs.declared.Rule.the-variants.{Kilowatts, Curve, Score, Rate, Bands, Factor, Fee, Quality, Energy, Loss}
-use Rattle.rules.specs.Rules.{scoresIn, pairs, arePairs, factorIn, kilowattsReply, curveReply, scoreReply, rateReply, bandsReply, factorReply, feeReply, qualityReply, energyReply, lossReply, ruleReply}
+use Rattle.rules.specs.Rules.{pairs, arePairs, factorIn, kilowattsReply, curveReply, scoreReply, rateReply, bandsReply, factorReply, feeReply, qualityReply, energyReply, lossReply, ruleReply}
 
 -- more than 16 records are refused, whatever they say
 pub too-many : (thresholds factors : List ℤ) (rate : ℕ) → 16 < length thresholds → factorAnswer thresholds factors rate ≡ record { refusal = 5; factor = pos 0 }
@@ -35,14 +39,20 @@ pub by-bands : (n : List ℤ) → factorIn n 0 .refusal ≡ inOrder ((arePairs n
 unfolding factorIn
 by-bands n = by-test (arePairs n) (λ (t : arePairs n ≡ true). rw t (by-columns _ _)) (λ (t : arePairs n ≡ false). rw t)
 
--- scores of another number are refused
-pub wrong-count : (scores : List ℕ) → (length scores ≡ secondsOfHour → ⊥) → hourlyRate scores ≡ record { refusal = wrongLength; rate = 0 }
+-- scores of another number are refused, and so are more than three earlier ones
+lengths-refused : (earlier scores : List ℕ) → (eqb (length scores) secondsOfHour && earlierFit (length earlier)) ≡ false → hourlyRate earlier scores ≡ noRate wrongLength
 unfolding hourlyRate scoresRefusal
-wrong-count scores h = rw (ne-eqb (length scores) secondsOfHour h)
+lengths-refused earlier scores t = rw t
 
-pub length-scores : (n : List ℤ) (many : ℕ) → length (scoresIn n many) ≡ many
-unfolding scoresIn
-length-scores n many = length-listed (λ (i : ℕ). byteOf (number n i)) 0 many
+pub wrong-count : (earlier scores : List ℕ) → (length scores ≡ secondsOfHour → ⊥) → hourlyRate earlier scores ≡ noRate wrongLength
+wrong-count earlier scores h = lengths-refused earlier scores (rw (ne-eqb (length scores) secondsOfHour h))
+
+wrong-earlier : (earlier scores : List ℕ) → earlierScores < length earlier → hourlyRate earlier scores ≡ noRate wrongLength
+wrong-earlier earlier scores h = lengths-refused earlier scores (rw (more-unfit (length earlier) h) (and-false (eqb (length scores) secondsOfHour)))
+
+-- so the first four of the earlier scores stand for all
+pub four-rated : (scores : List ℕ) (n : List ℤ) → hourlyRate (taken (firstFour n)) scores ≡ hourlyRate (scoresIn n) scores
+four-rated scores = four-same (λ (l : List ℕ). hourlyRate l scores) (λ a b h k. wrong-earlier a scores h ∙ sym (wrong-earlier b scores k))
 
 -- numbers that are pairs, by what is left of their count
 pub pairs-by : (n : List ℤ) → length n % 2 ≡ 0 → arePairs n ≡ true
@@ -52,15 +62,15 @@ pub no-pairs : (n : List ℤ) → (length n % 2 ≡ 0 → ⊥) → arePairs n �
 no-pairs n h = ne-eqb (length n % 2) 0 h
 
 -- an answer has at most twelve fields
-pub rule-few : (rule : Rule) (n t : List ℤ) → length (ruleReply rule n t .fields) ≤ 12
+pub rule-few : (rule : Rule) (n : List ℤ) (counted : Bool) (earlier t : List ℤ) → length (ruleReply rule n counted earlier t .fields) ≤ 12
 unfolding kilowattsReply curveReply scoreReply rateReply bandsReply factorReply feeReply qualityReply energyReply lossReply
-rule-few Kilowatts n t = omega arith
-rule-few Curve n t = omega arith
-rule-few Score n t = omega arith
-rule-few Rate n t = omega arith
-rule-few Bands n t = omega arith
-rule-few Factor n t = omega arith
-rule-few Fee n t = omega arith
-rule-few Quality n t = omega arith
-rule-few Energy n t = omega arith
-rule-few Loss n t = omega arith
+rule-few Kilowatts n counted earlier t = omega arith
+rule-few Curve n counted earlier t = omega arith
+rule-few Score n counted earlier t = omega arith
+rule-few Rate n counted earlier t = omega arith
+rule-few Bands n counted earlier t = omega arith
+rule-few Factor n counted earlier t = omega arith
+rule-few Fee n counted earlier t = omega arith
+rule-few Quality n counted earlier t = omega arith
+rule-few Energy n counted earlier t = omega arith
+rule-few Loss n counted earlier t = omega arith

@@ -6,18 +6,18 @@ use lib.Dec.{eqb}
 use lib.IntN.{ℤ, pos}
 use lib.ListN.{length, take, drop}
 use Rattle.whole.specs.Choice.{pick, inOrder}
-use Rattle.whole.specs.Runs.{listed}
 use Rattle.units.specs.Refusals.{wrongLength, badBands}
 use Rattle.units.specs.Units.{kilowatts, megawatts, millihertz, dollars, inKilowatts}
 use Rattle.curve.specs.Curve.{curveAt}
 use Rattle.score.specs.Score.{secondScore}
-use Rattle.rate.specs.Rolling.{hourlyRate}
+use Rattle.rate.specs.Rolling.{hourlyRate, noRate}
+use Rattle.rate.specs.declared.Rated.{Rated}
 use Rattle.bands.specs.Bands.{bandsFit, factorAnswer}
 use Rattle.bands.specs.declared.Factored.{Factored}
 use Rattle.fees.specs.Fees.{feeAnswer, qualityAnswer, energyAnswer}
 use Rattle.fees.specs.declared.Charged.{Charged}
 use Rattle.loss.specs.Loss.{lossAnswer}
-use Rattle.numbers.specs.Numbers.{number, byteOf, column}
+use Rattle.numbers.specs.Numbers.{number, byteOf, scoresIn, column}
 use Rattle.words.specs.Replies.{Reply, reply}
 use Rattle.words.specs.declared.Rule.{Rule}
 use Rattle.words.specs.declared.Rule.the-variants.{Kilowatts, Curve, Score, Rate, Bands, Factor, Fee, Quality, Energy, Loss}
@@ -35,13 +35,12 @@ unfoldable pub scoreReply : List ℤ → Reply
 scoreReply n =
     let a = secondScore (kilowatts (number n 0)) (kilowatts (number n 1)) (kilowatts (number n 2)) (millihertz (number n 3)) in reply (a .refusal) (pos (a .score) ∷ [])
 
--- numbers as scores: one that no byte holds is taken as 255, which is no score
-unfoldable pub scoresIn : List ℤ → ℕ → List ℕ
-scoresIn n many = listed (λ i. byteOf (number n i)) 0 many
+-- E, then E earlier scores, then 3,600 scores: refusal, rate (document 02, #102). An E that counts nothing is refused with 1
+abbrev pub rateAsked : Bool → List ℤ → List ℤ → Rated
+rateAsked counted earlier t = pick counted (hourlyRate (scoresIn earlier) (scoresIn t)) (noRate wrongLength)
 
--- 3,600 scores: refusal, rate
-unfoldable pub rateReply : List ℤ → Reply
-rateReply t = let a = hourlyRate (scoresIn t (length t)) in reply (a .refusal) (pos (a .rate) ∷ [])
+unfoldable pub rateReply : Bool → List ℤ → List ℤ → Reply
+rateReply counted earlier t = let a = rateAsked counted earlier t in reply (a .refusal) (pos (a .rate) ∷ [])
 
 -- how many pairs there are
 abbrev pub pairs : List ℤ → ℕ
@@ -86,15 +85,15 @@ lossReply n =
     let a = lossAnswer (number n 0) (number n 1) (number n 2) (number n 3) in
     reply (a .refusal) (a .basic .0 ∷ a .excess .0 ∷ a .total .0 ∷ [])
 
--- the answer to a rule's question, by its single numbers and by those after them
-abbrev pub ruleReply : Rule → List ℤ → List ℤ → Reply
-ruleReply Kilowatts n t = kilowattsReply n
-ruleReply Curve n t = curveReply n
-ruleReply Score n t = scoreReply n
-ruleReply Rate n t = rateReply t
-ruleReply Bands n t = bandsReply t
-ruleReply Factor n t = factorReply n t
-ruleReply Fee n t = feeReply n
-ruleReply Quality n t = qualityReply n
-ruleReply Energy n t = energyReply n t
-ruleReply Loss n t = lossReply n
+-- the answer to a rule's question, by its single numbers, by its earlier scores and whether they are counted, and by the numbers after them
+abbrev pub ruleReply : Rule → List ℤ → Bool → List ℤ → List ℤ → Reply
+ruleReply Kilowatts n counted earlier t = kilowattsReply n
+ruleReply Curve n counted earlier t = curveReply n
+ruleReply Score n counted earlier t = scoreReply n
+ruleReply Rate n counted earlier t = rateReply counted earlier t
+ruleReply Bands n counted earlier t = bandsReply t
+ruleReply Factor n counted earlier t = factorReply n t
+ruleReply Fee n counted earlier t = feeReply n
+ruleReply Quality n counted earlier t = qualityReply n
+ruleReply Energy n counted earlier t = energyReply n t
+ruleReply Loss n counted earlier t = lossReply n

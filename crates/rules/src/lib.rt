@@ -2,12 +2,13 @@
 // rule.
 ghost use Prim.Native.Nat.{_≤_};
 ghost use mathlib.Core.Path.{_≡_};
+ghost use mathlib.Core.Bool.{true};
 ghost use lib.ListN.{length};
 ghost use Rattle.units.specs.Limits.{secondsOfHour};
 ghost use Rattle.bands.specs.Bands.{factorAnswer};
 ghost use Rattle.words.specs.Inner.{boxed};
 ghost use Rattle.numbers.specs.Numbers.{column};
-ghost use Rattle.rules.specs.Rules.{scoresIn, factorIn, kilowattsReply, curveReply, scoreReply, rateReply, bandsReply};
+ghost use Rattle.rules.specs.Rules.{factorIn, kilowattsReply, curveReply, scoreReply, rateReply, bandsReply};
 ghost use Rattle.rules.specs.Inner.{few};
 ghost use Rattle.rules.specs.Rules.{factorReply, chargeReply, feeReply, qualityReply, energyReply, lossReply, ruleReply};
 use bands::Factored;
@@ -21,16 +22,16 @@ use units::refusals;
 use words::Few;
 use words::Rule;
 
-// THE FAMILY: the answer to a question about one rule, by its single numbers and by those after them; 1 where those
-// after them are not as many as the rule takes.
-pub fn answer(rule: Rule, head: [i64; 12], tail: &[i64]) -> Few
-    ensures { λ r. ⌜ r ≡ boxed (ruleReply rule head (now (tail .entry))) ⌝ }
+// THE FAMILY: the answer to a question about one rule, by its single numbers, by its earlier scores and whether they
+// are counted, and by the numbers after them; 1 where those are not as many as the rule takes.
+pub fn answer(rule: Rule, head: [i64; 12], counted: bool, earlier: &[i64], tail: &[i64]) -> Few
+    ensures { λ r. ⌜ r ≡ boxed (ruleReply rule head counted (now (earlier .entry)) (now (tail .entry))) ⌝ }
 {
     match rule {
         Rule::Kilowatts => kilowatts(head),
         Rule::Curve => curve(head),
         Rule::Score => score(head),
-        Rule::Rate => rate(tail),
+        Rule::Rate => rate(counted, earlier, tail),
         Rule::Bands => bands(tail),
         Rule::Factor => factor(head, tail),
         Rule::Fee => fee(head),
@@ -78,34 +79,30 @@ fn score(head: [i64; 12]) -> Few
     few(scored.refusal, 1, scored.score as i64, 0, 0)
 }
 
-fn rate(tail: &[i64]) -> Few
-    ensures { λ r. ⌜ r ≡ boxed (rateReply (now (tail .entry))) ⌝ }
+fn rate(counted: bool, earlier: &[i64], tail: &[i64]) -> Few
+    ensures { λ r. ⌜ r ≡ boxed (rateReply counted (now (earlier .entry)) (now (tail .entry))) ⌝ }
 {
+    if !counted {
+        return few(refusals::WRONG_LENGTH, 1, 0, 0, 0);
+    }
     if tail.len() != limits::SECONDS {
         return few(refusals::WRONG_LENGTH, 1, 0, 0, 0);
     }
-    rated(tail)
+    rated(earlier, tail)
 }
 
-// The rate of 3,600 scores.
-fn rated(tail: &[i64]) -> Few
+// The rate of 3,600 scores, after the earlier ones.
+fn rated(earlier: &[i64], tail: &[i64]) -> Few
     requires { ⌜ length (now tail) ≡ secondsOfHour ⌝ }
-    ensures { λ r. ⌜ r ≡ boxed (rateReply (now (tail .entry))) ⌝ }
+    ensures { λ r. ⌜ r ≡ boxed (rateReply true (now (earlier .entry)) (now (tail .entry))) ⌝ }
 {
     let mut scores = [0u8; limits::SECONDS];
-    fill_scores(tail, &mut scores);
-    let rated = rate::hourly_rate(&scores);
+    numbers::fill_bytes(tail, &mut scores);
+    let before = numbers::first_four(earlier);
+    let n = before.count;
+    let first = before.scores;
+    let rated = rate::hourly_rate(&first[..n], &scores);
     few(rated.refusal, 1, rated.rate as i64, 0, 0)
-}
-
-fn fill_scores(numbers: &[i64], scores: &mut [u8])
-    ensures { λ _. ⌜ now (scores .exit) ≡ scoresIn (now (numbers .entry)) (length (now (scores .entry))) ⌝ }
-{
-    let mut i = 0;
-    while i < scores.len() {
-        scores[i] = numbers::byte_of(whole::at(numbers, i));
-        i += 1;
-    }
 }
 
 fn bands(tail: &[i64]) -> Few

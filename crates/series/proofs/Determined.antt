@@ -6,8 +6,8 @@ use Rattle.whole.specs.Determined.{Determined, LeftDetermined}
 use Rattle.series.proofs.answer.Reads as answer
 use Rattle.series.proofs.answer.Kinds as answer-kinds
 
-answer-determined : Determined 3 answer-kinds.ps answer-kinds.r answer.Post
+answer-determined : Determined 4 answer-kinds.ps answer-kinds.r answer.Post
 answer-determined κs a x y s t p q = p .0 ∙ sym (q .0)
 
-answer-run-determined : LeftDetermined 3 answer-kinds.ps answer-kinds.r (λ κs s. now (s .1 .1 .1 .1 .0)) answer.Post
+answer-run-determined : LeftDetermined 4 answer-kinds.ps answer-kinds.r (λ κs s. now (s .1 .1 .1 .1 .1 .1 .0)) answer.Post
 answer-run-determined κs a x y s t p q = p .1 ∙ sym (q .1)

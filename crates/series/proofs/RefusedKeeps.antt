@@ -12,7 +12,7 @@ use Rattle.whole.specs.Choice.{kept}
 use Rattle.words.specs.Replies.{Reply, reply}
 use Rattle.words.specs.declared.Series.{Series}
 use Rattle.words.specs.declared.Series.the-variants.{Ramp, DregScores, EdregScores}
-use Rattle.hours.specs.Hours.{scoresReply}
+use Rattle.hours.specs.Hours.{HourNumbers, scoresReply}
 use Rattle.series.specs.Series.{rampReply, seriesReply}
 use Rattle.series.specs.Inner.{ranOf, ranLeft}
 use Rattle.series.specs.declared.Ran.{Ran}
@@ -30,22 +30,22 @@ Keeps r = (run : List ℤ) → (r .refusal ≡ 0 → ⊥) → (ranOf r ≡ bare 
 by-number : (k : ℕ) (fields : List ℤ) → Keeps (reply k (kept k fields []))
 by-number k fields run f = let d = none-ran k k fields refl run f in (sym (d .0), sym (d .1))
 
-keeps : (asks : Series) (n bands readings : List ℤ) → Keeps (seriesReply asks n bands readings)
+keeps : (asks : Series) (given : HourNumbers) → Keeps (seriesReply asks given)
 unfolding rampReply scoresReply
-keeps Ramp n bands readings = by-number _ _
-keeps DregScores n bands readings = by-number _ _
-keeps EdregScores n bands readings = by-number _ _
+keeps Ramp given = by-number _ _
+keeps DregScores given = by-number _ _
+keeps EdregScores given = by-number _ _
 
 -- the run, as it was lent and as it is left
-abbrev lent : (κs : Lfts 3) → Dens κs answer-kinds.ps → List ℤ
-lent κs a = now (a .1 .1 .1 .1 .0)
+abbrev lent : (κs : Lfts 4) → Dens κs answer-kinds.ps → List ℤ
+lent κs a = now (a .1 .1 .1 .1 .1 .1 .0)
 
-abbrev left : (κs : Lfts 3) → AtExit (endedOf 3 answer-kinds.ps answer-kinds.r) κs → List ℤ
-left κs s = now (s .1 .1 .1 .1 .0)
+abbrev left : (κs : Lfts 4) → AtExit (endedOf 4 answer-kinds.ps answer-kinds.r) κs → List ℤ
+left κs s = now (s .1 .1 .1 .1 .1 .1 .0)
 
-answer-refused-keeps : RefusedKeeps 3 answer-kinds.ps answer-kinds.r (λ κs x. x .refusal) (λ κs a k. bare k) lent left answer.Post
+answer-refused-keeps : RefusedKeeps 4 answer-kinds.ps answer-kinds.r (λ κs x. x .refusal) (λ κs a k. bare k) lent left answer.Post
 unfolding ranOf
 answer-refused-keeps κs a x s p f =
     let k = ap (λ (y : Ran). y .refusal) (p .0) in
-    let d = keeps (a .0) (a .1 .0) (now (a .1 .1 .0)) (now (a .1 .1 .1 .0)) (lent κs a) (λ z. f (k ∙ z)) in
+    let d = keeps (a .0) _ (lent κs a) (λ z. f (k ∙ z)) in
     (p .0 ∙ d .0 ∙ sym (ap bare k), p .1 ∙ d .1)

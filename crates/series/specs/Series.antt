@@ -10,7 +10,7 @@ use Rattle.words.specs.Replies.{Reply, reply}
 use Rattle.words.specs.declared.Hour.the-variants.{Dreg, Edreg}
 use Rattle.words.specs.declared.Series.{Series}
 use Rattle.words.specs.declared.Series.the-variants.{Ramp, DregScores, EdregScores}
-use Rattle.hours.specs.Hours.{scoresReply}
+use Rattle.hours.specs.Hours.{HourNumbers, scoresReply}
 
 -- LAST TARGET: 0 and the 900 seconds' powers; or the refusal alone
 unfoldable pub rampReply : List ℤ → Reply
@@ -18,8 +18,8 @@ rampReply n =
     let k = rampRefusal (kilowatts (number n 0)) (kilowatts (number n 1)) secondsOfQuarter in
     reply k (kept k (rampOf (number n 0) (number n 1)) [])
 
--- the answer to a run's question, by its single numbers, and by the bands and readings of its hour
-abbrev pub seriesReply : Series → List ℤ → List ℤ → List ℤ → Reply
-seriesReply Ramp n bands readings = rampReply n
-seriesReply DregScores n bands readings = scoresReply Dreg n bands readings
-seriesReply EdregScores n bands readings = scoresReply Edreg n bands readings
+-- the answer to a run's question: a ramp's by its single numbers, which stand where an hour's terms do; an hour's by its numbers
+abbrev pub seriesReply : Series → HourNumbers → Reply
+seriesReply Ramp given = rampReply (given .terms)
+seriesReply DregScores given = scoresReply Dreg given
+seriesReply EdregScores given = scoresReply Edreg given

@@ -4,7 +4,7 @@ ghost use mathlib.Core.List.{map};
 ghost use lib.IntN.{pos};
 ghost use lib.ListN.{length};
 ghost use Rattle.units.specs.Limits.{secondsOfHour};
-ghost use Rattle.hours.specs.Hours.{scoresReply};
+ghost use Rattle.hours.specs.Hours.{hourNumbers, scoresReply};
 ghost use Rattle.series.specs.Series.{rampReply, seriesReply};
 ghost use Rattle.series.specs.Inner.{ranOf, ranLeft};
 use units::Kilowatts;
@@ -23,16 +23,18 @@ pub fn answer(
     asks: Series,
     head: [i64; 12],
     bands: &[i64],
+    counted: bool,
+    earlier: &[i64],
     readings: &[i64],
     run: &mut [i64; limits::SECONDS],
 ) -> Ran
-    ensures answers { λ r. ⌜ r ≡ ranOf (seriesReply asks head (now (bands .entry)) (now (readings .entry))) ⌝ }
-    ensures leaves { λ r. ⌜ now (run .exit) ≡ ranLeft (seriesReply asks head (now (bands .entry)) (now (readings .entry))) (now (run .entry)) ⌝ }
+    ensures answers { λ r. ⌜ r ≡ ranOf (seriesReply asks (hourNumbers head (now (bands .entry)) counted (now (earlier .entry)) (now (readings .entry)))) ⌝ }
+    ensures leaves { λ r. ⌜ now (run .exit) ≡ ranLeft (seriesReply asks (hourNumbers head (now (bands .entry)) counted (now (earlier .entry)) (now (readings .entry)))) (now (run .entry)) ⌝ }
 {
     match asks {
         Series::Ramp => ramp(head, run),
-        Series::DregScores => scores(Hour::Dreg, head, bands, readings, run),
-        Series::EdregScores => scores(Hour::Edreg, head, bands, readings, run),
+        Series::DregScores => scores(Hour::Dreg, head, bands, counted, earlier, readings, run),
+        Series::EdregScores => scores(Hour::Edreg, head, bands, counted, earlier, readings, run),
     }
 }
 
@@ -58,13 +60,21 @@ fn ramp(head: [i64; 12], run: &mut [i64]) -> Ran
 }
 
 // An hour's scores.
-fn scores(hour: Hour, head: [i64; 12], bands: &[i64], readings: &[i64], run: &mut [i64]) -> Ran
+fn scores(
+    hour: Hour,
+    head: [i64; 12],
+    bands: &[i64],
+    counted: bool,
+    earlier: &[i64],
+    readings: &[i64],
+    run: &mut [i64],
+) -> Ran
     requires { ⌜ length (now run) ≡ secondsOfHour ⌝ }
-    ensures answers { λ r. ⌜ r ≡ ranOf (scoresReply hour head (now (bands .entry)) (now (readings .entry))) ⌝ }
-    ensures leaves { λ r. ⌜ now (run .exit) ≡ ranLeft (scoresReply hour head (now (bands .entry)) (now (readings .entry))) (now (run .entry)) ⌝ }
+    ensures answers { λ r. ⌜ r ≡ ranOf (scoresReply hour (hourNumbers head (now (bands .entry)) counted (now (earlier .entry)) (now (readings .entry)))) ⌝ }
+    ensures leaves { λ r. ⌜ now (run .exit) ≡ ranLeft (scoresReply hour (hourNumbers head (now (bands .entry)) counted (now (earlier .entry)) (now (readings .entry)))) (now (run .entry)) ⌝ }
 {
     let mut scores = [0u8; limits::SECONDS];
-    let settled = hours::settle(hour, head, bands, readings, &mut scores);
+    let settled = hours::settle(hour, head, bands, counted, earlier, readings, &mut scores);
     let k = settled.refusal;
     if k != 0 {
         return Ran {

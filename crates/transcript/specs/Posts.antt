@@ -19,15 +19,15 @@ use Rattle.numbers.specs.declared.Places.{Places}
 use Rattle.hours.specs.Hours.{Basis, hourAsked, settlement}
 use Rattle.frames.specs.Frames.{hourPost, feeEntry, lossAsked, lossFrames}
 use Rattle.frames.specs.declared.Framed.{Framed}
-use Rattle.question.specs.Parts.{headOf, bandsIn}
+use Rattle.question.specs.Parts.{headOf, givenIn}
 use Rattle.frame_lines.specs.Text.{entryText, frameText}
 
 -- DAY HOUR, then an hour, its terms after them; and the frame that posts its amount
 abbrev pub hourFramed : words.Hour → List ℤ → Places → Basis
-hourFramed asks n places = hourAsked asks (headOf (drop 2 n)) (bandsIn n places) (drop (places .tail) n)
+hourFramed asks n places = hourAsked asks (givenIn (headOf (drop 2 n)) n places)
 
 abbrev pub hourFrame : words.Hour → List ℤ → Places → Framed
-hourFrame asks n places = hourPost asks (headOf n) (headOf (drop 2 n)) (bandsIn n places) (drop (places .tail) n)
+hourFrame asks n places = hourPost asks (headOf n) (givenIn (headOf (drop 2 n)) n places)
 
 -- a post of an hour
 abbrev pub posting : ℕ → ℕ → Basis → Entry

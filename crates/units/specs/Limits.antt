@@ -61,6 +61,10 @@ isAward = inRange (minus mostAward) (pos mostAward)
 abbrev pub mostScore : ℕ
 mostScore = 100
 
+-- "The hour takes these 3 earlier scores or 0" (document 02, #102)
+abbrev pub earlierScores : ℕ
+earlierScores = 3
+
 -- "a factor in tenths, -240 to 10"
 abbrev pub leastFactor : ℤ
 leastFactor = minus 240

@@ -13,6 +13,8 @@ pub const AWARD: i64 = 100;
 
 pub const SCORE: u8 = 100;
 
+pub const EARLIER: usize = 3;
+
 pub const LEAST_FACTOR: i64 = -240;
 
 pub const MOST_FACTOR: i64 = 10;

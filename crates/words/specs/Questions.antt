@@ -23,18 +23,22 @@ shape head lists tail group = record { head = head; lists = lists; tail = tail; 
 abbrev pub noLists : List ℕ
 noLists = 0 ∷ 0 ∷ 0 ∷ 0 ∷ []
 
--- single numbers alone; with one for each second of an hour after them; with groups after them; with a list of pairs and two for each second after it
+-- single numbers alone; with one for each second of an hour after them; with groups after them; with a list of pairs, a list of earlier scores and two for each second after it
 abbrev pub singles : ℕ → Shape
 singles head = shape head noLists 0 0
 
 abbrev pub secondsShape : ℕ → Shape
 secondsShape head = shape head noLists secondsOfHour 0
 
+-- with a list of earlier scores and one for each second after it (document 02, #102)
+abbrev pub scoresShape : ℕ → Shape
+scoresShape head = shape head (1 ∷ 0 ∷ 0 ∷ 0 ∷ []) secondsOfHour 0
+
 abbrev pub singlesGroups : ℕ → ℕ → Shape
 singlesGroups head group = shape head noLists 0 group
 
 abbrev pub hourShape : ℕ → Shape
-hourShape head = shape head (2 ∷ 0 ∷ 0 ∷ 0 ∷ []) (2 * secondsOfHour) 0
+hourShape head = shape head (2 ∷ 1 ∷ 0 ∷ 0 ∷ []) (2 * secondsOfHour) 0
 
 abbrev pub known : Question → Shape → Row
 known question shape = record { fault = 0; question = question; shape = shape }
@@ -53,7 +57,7 @@ table =
     ∷ entry "curve" (asks.Rule Curve) (singles 1)
     ∷ entry "score" (asks.Rule Score) (singles 4)
     ∷ entry "ramp" (asks.Series Ramp) (singles 2)
-    ∷ entry "rate" (asks.Rule Rate) (secondsShape 0)
+    ∷ entry "rate" (asks.Rule Rate) (scoresShape 0)
     ∷ entry "bands" (asks.Rule Bands) (singlesGroups 0 2)
     ∷ entry "factor" (asks.Rule Factor) (singlesGroups 1 2)
     ∷ entry "fee" (asks.Rule Fee) (singles 2)

@@ -1,6 +1,6 @@
 // The questions of the program `desk`: of each its word, and the shape of its numbers. And the numbers of the faults.
 ghost use mathlib.Core.Path.{_≡_};
-ghost use Rattle.words.specs.Questions.{known, singles, secondsShape, singlesGroups, hourShape, questionOf};
+ghost use Rattle.words.specs.Questions.{known, singles, secondsShape, scoresShape, singlesGroups, hourShape, questionOf};
 use units::limits;
 
 mod codes;
@@ -78,7 +78,7 @@ pub fn question_of(code: u64) -> Row
         codes::CURVE => singles(Question::Rule(Rule::Curve), 1),
         codes::SCORE => singles(Question::Rule(Rule::Score), 4),
         codes::RAMP => singles(Question::Series(Series::Ramp), 2),
-        codes::RATE => seconds(Question::Rule(Rule::Rate), 0),
+        codes::RATE => scored(Question::Rule(Rule::Rate), 0),
         codes::BANDS => groups(Question::Rule(Rule::Bands), 0, 2),
         codes::FACTOR => groups(Question::Rule(Rule::Factor), 1, 2),
         codes::FEE => singles(Question::Rule(Rule::Fee), 2),
@@ -138,6 +138,22 @@ fn seconds(question: Question, head: u8) -> Row
     }
 }
 
+// Single numbers, earlier scores, and one for each second of an hour.
+fn scored(question: Question, head: u8) -> Row
+    ensures { λ r. ⌜ r ≡ known question (scoresShape head) ⌝ }
+{
+    Row {
+        fault: 0,
+        question,
+        shape: Shape {
+            head,
+            lists: [1, 0, 0, 0],
+            tail: limits::SECONDS as u16,
+            group: 0,
+        },
+    }
+}
+
 // Single numbers, and groups of so many after them.
 fn groups(question: Question, head: u8, group: u8) -> Row
     ensures { λ r. ⌜ r ≡ known question (singlesGroups head group) ⌝ }
@@ -154,7 +170,7 @@ fn groups(question: Question, head: u8, group: u8) -> Row
     }
 }
 
-// An hour's: single numbers, the bands, two readings for each second.
+// An hour's: single numbers, the bands, the earlier scores, two readings for each second.
 fn hourly(question: Question, head: u8) -> Row
     ensures { λ r. ⌜ r ≡ known question (hourShape head) ⌝ }
 {
@@ -163,7 +179,7 @@ fn hourly(question: Question, head: u8) -> Row
         question,
         shape: Shape {
             head,
-            lists: [2, 0, 0, 0],
+            lists: [2, 1, 0, 0],
             tail: 2 * limits::SECONDS as u16,
             group: 0,
         },

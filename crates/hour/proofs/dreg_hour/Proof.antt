@@ -8,7 +8,7 @@ use Rattle.hour.proofs.dreg_hour.Statement.{statement}
 use Rattle.hour.proofs.dreg_hour.Tie as tie
 
 abbrev hour : tie.Start → WholeHour
-hour s = let a = s .args in dRegHour (a .powers .now) (a .frequencies .now) (a .terms) (a .thresholds .now) (a .factors .now)
+hour s = let a = s .args in dRegHour (a .powers .now) (a .frequencies .now) (a .terms) (a .thresholds .now) (a .factors .now) (a .earlier .now)
 
 refusal-requires : tie.Need-refusal-requires
 refusal-requires c κs = search needs
@@ -19,7 +19,7 @@ refused-hour-requires c κs = search needs
 returns : tie.Need-returns
 returns c =
     let t = c .before in
-    let s = t .before .before .before in
+    let s = t .before .before .before .before in
     terms-refused (hour s) (s .args .scores .now) (t .before .refusal .ensures) (t .if1 .taken) (c .refused-hour .ensures)
 
 slice-aggregate-worked : tie.Need-slice-aggregate-worked
@@ -36,7 +36,7 @@ unfolding transfersOf
 returns-2 c =
     let w = c .before .before in
     let e = w .before .before .before in
-    let s = e .before .before .before in
+    let s = e .before .before .before .before in
     let run = s .args .scores .now in
     let none : ofTerms (hour s) (length run) ≡ 0 = sym (e .before .refusal .ensures) ∙ e .if1 .left in
     (w .worked .ensures .0 ∙ worked-is (hour s) (length run) none, w .worked .ensures .1 ∙ left-is (hour s) run none)

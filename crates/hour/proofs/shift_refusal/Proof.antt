@@ -15,10 +15,10 @@ all-within-requires c κs = search needs
 refusal-requires : tie.Need-refusal-requires
 refusal-requires c κs = search needs
 
-discharge-fits : (c : tie.After-struct-told2) → SFits w64 (c .before .before .args .t5 .discharge)
+discharge-fits : (c : tie.After-struct-told2) → SFits w64 (c .before .before .args .t6 .discharge)
 discharge-fits c = search needs
 
-charge-fits : (c : tie.After-struct-told2) → SFits w64 (c .before .before .args .t5 .charge)
+charge-fits : (c : tie.After-struct-told2) → SFits w64 (c .before .before .args .t6 .charge)
 charge-fits c = search needs
 
 returns : tie.Need-returns

@@ -10,8 +10,8 @@ use Rattle.hours.proofs.answer.Tie as tie
 settle-requires : tie.Need-settle-requires
 settle-requires c κs = search needs
 
-cast-t13 : tie.Need-cast-t13
-cast-t13 c = search needs
+cast-t15 : tie.Need-cast-t15
+cast-t15 c = search needs
 
 returns : tie.Need-returns
 unfolding hourReply
@@ -23,7 +23,7 @@ returns c =
     let quality : SFits w64 (r .result .quality .0) = search needs in
     let energy : SFits w64 (r .result .energy .0) = search needs in
     let amount : SFits w64 (r .result .amount .0) = search needs in
-    rw (toZ-ofZ (cast-t13 (c .before .before .before .before .before .before)), toZ-ofZ factor, toZ-ofZ capacity, toZ-ofZ performance, toZ-ofZ quality, toZ-ofZ energy, toZ-ofZ amount, r .ensures .0)
+    rw (toZ-ofZ (cast-t15 (c .before .before .before .before .before .before)), toZ-ofZ factor, toZ-ofZ capacity, toZ-ofZ performance, toZ-ofZ quality, toZ-ofZ energy, toZ-ofZ amount, r .ensures .0)
 
 pub answer-spec : {M : Type 1} → statement M
-answer-spec = tie.close (tie.spec settle-requires cast-t13 returns)
+answer-spec = tie.close (tie.spec settle-requires cast-t15 returns)

@@ -1,11 +1,13 @@
--- `hours::settle_bands` meets its contract: the front of each column is lent to the hour. Assumes nothing.
+-- `hours::settle_bands` meets its contract: the front of each column and of the earlier scores is lent to the hour. Assumes nothing.
 use borrow.Author.Needs.{needs}
 use mathlib.Core.Path.{sym, ap, ap₂, _∙_}
 use mathlib.Core.List.{List}
 use lib.IntN.{ℤ}
 use lib.ListN.{length}
+use lib.Seq.{length-take-le}
 use Rattle.hour.specs.Hour.{hourAnswer, scoresLeft}
 use Rattle.numbers.specs.Numbers.{column}
+use Rattle.numbers.specs.Inner.{taken}
 use Rattle.numbers.proofs.Columns.{Front, front}
 use Rattle.hours.specs.Hours.{serviceOf, hourFrom}
 use Rattle.hours.proofs.settle_bands.Statement.{statement}
@@ -37,13 +39,19 @@ array-share-prefix-thresholds : tie.Need-array-share-prefix-thresholds
 array-share-prefix-thresholds c = search needs
 
 slice-aggregate-settle-kind : tie.Need-slice-aggregate-settle-kind
-slice-aggregate-settle-kind c = sym (thresholds (c .before) .long)
+slice-aggregate-settle-kind c = sym (thresholds (c .before .before) .long)
 
 array-share-prefix-factors : tie.Need-array-share-prefix-factors
 array-share-prefix-factors c = search needs
 
 slice-aggregate-settle-kind-2 : tie.Need-slice-aggregate-settle-kind-2
-slice-aggregate-settle-kind-2 c = sym (factors (c .before .before) .long)
+slice-aggregate-settle-kind-2 c = sym (factors (c .before .before .before) .long)
+
+array-share-prefix-earlier : tie.Need-array-share-prefix-earlier
+array-share-prefix-earlier c = c .before .before .before .before .before .before .before .before .before .before .before .pre
+
+slice-aggregate-settle-kind-3 : tie.Need-slice-aggregate-settle-kind-3
+slice-aggregate-settle-kind-3 c = sym (length-take-le _ _ (c .before .before .before .before .before .before .before .before .before .before .before .before .pre))
 
 settle-kind-requires : tie.Need-settle-kind-requires
 settle-kind-requires c κs = search needs
@@ -54,13 +62,13 @@ same-length c = search needs
 returns : tie.Need-returns
 returns c =
     let h = c .before .before in
-    let p = h .before .before .before .before in
+    let p = h .before .before .before .before .before .before in
     let a = p .before .before .before .before .before .before .before .before .args in
     let bands = a .bands .now in
     let t = thresholds p .is ∙ ap (column bands 0) (p .pairs-in .ensures .0) in
     let g = factors p .is ∙ ap (column bands 1) (p .pairs-in .ensures .0) in (
-      h .settle-kind .ensures .0 ∙ ap₂ (λ (t g : List ℤ). hourAnswer (hourFrom (a .powers .now) (a .frequencies .now) (a .terms) (serviceOf (a .hour) (a .shift)) t g) (length (a .scores .now))) t g,
-      h .settle-kind .ensures .1 ∙ ap₂ (λ (t g : List ℤ). scoresLeft (hourFrom (a .powers .now) (a .frequencies .now) (a .terms) (serviceOf (a .hour) (a .shift)) t g) (a .scores .now)) t g,
+      h .settle-kind .ensures .0 ∙ ap₂ (λ (t g : List ℤ). hourAnswer (hourFrom (a .powers .now) (a .frequencies .now) (a .terms) (serviceOf (a .hour) (a .shift)) t g (taken (a .before))) (length (a .scores .now))) t g,
+      h .settle-kind .ensures .1 ∙ ap₂ (λ (t g : List ℤ). scoresLeft (hourFrom (a .powers .now) (a .frequencies .now) (a .terms) (serviceOf (a .hour) (a .shift)) t g (taken (a .before))) (a .scores .now)) t g,
     )
 
 pub settle-bands-spec : {M : Type 1} → statement M
@@ -76,6 +84,8 @@ settle-bands-spec =
     slice-aggregate-settle-kind
     array-share-prefix-factors
     slice-aggregate-settle-kind-2
+    array-share-prefix-earlier
+    slice-aggregate-settle-kind-3
     settle-kind-requires
     same-length
     returns)

@@ -18,7 +18,7 @@ posted-requires c κs = search needs
 returns : tie.Need-returns
 unfolding jointOf
 returns c =
-    let a = c .before .before .before .before .args in
+    let a = c .before .before .before .before .before .args in
     c .posted .ensures ∙ ap (λ (h : Settlement). postedOf h (a .month) (a .day) (a .hour)) (c .before .before .hour .ensures .0)
 
 pub joint-spec : {M : Type 1} → statement M

@@ -19,6 +19,9 @@ head-of-requires-2 c κs = search needs
 part-requires : tie.Need-part-requires
 part-requires c κs = search needs
 
+part-requires-2 : tie.Need-part-requires-2
+part-requires-2 c κs = search needs
+
 rest-requires-2 : tie.Need-rest-requires-2
 rest-requires-2 c κs = search needs
 
@@ -35,11 +38,12 @@ returns : tie.Need-returns
 returns c =
     let x = c .before .before .before .before in
     let q2 = x .before in
-    let q = q2 .before in
+    let p2 = q2 .before in
+    let q = p2 .before in
     let h2 = q .before in
     let r = h2 .before in
-    let e = rw (r .before .head-of .ensures, h2 .head-of2 .ensures, r .rest .ensures, q .part .ensures, q2 .rest2 .ensures) at (x .answer .ensures) in
-    let s = r .before .before .before .before in
+    let e = rw (r .before .head-of .ensures, h2 .head-of2 .ensures, r .rest .ensures, q .part .ensures, p2 .part2 .ensures, q2 .rest2 .ensures) at (x .answer .ensures) in
+    let s = r .before .before .before .before .before in
     let p = rw e at (c .before .before .put-frames .ensures) in
     let long = frames-long (framePrints (s .args .asks) (s .args .numbers .now) (s .args .places)) in
     let one = begin (s .args .out .now) _ _ _ (omega (arith, long, s .pre)) (p .0) (p .1) in
@@ -53,6 +57,7 @@ put-framed-spec =
     rest-requires
     head-of-requires-2
     part-requires
+    part-requires-2
     rest-requires-2
     answer-requires
     put-frames-requires

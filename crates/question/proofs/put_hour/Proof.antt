@@ -12,6 +12,9 @@ head-of-requires c κs = search needs
 part-requires : tie.Need-part-requires
 part-requires c κs = search needs
 
+part-requires-2 : tie.Need-part-requires-2
+part-requires-2 c κs = search needs
+
 rest-requires : tie.Need-rest-requires
 rest-requires c κs = search needs
 
@@ -19,11 +22,12 @@ answer-requires : tie.Need-answer-requires
 answer-requires c κs = search needs
 
 -- what the box holds
-here : (c : tie.After-answer) → let a = c .before .before .before .before .before .before .args in Held (c .answer .result) (hourPrints (a .hour) (a .numbers .now) (a .places))
+here : (c : tie.After-answer) → let a = c .before .before .before .before .before .before .before .before .args in Held (c .answer .result) (hourPrints (a .hour) (a .numbers .now) (a .places))
 here c =
     let r = c .before in
-    let p = r .before in
-    held _ _ (hour-few _ _ _ _) (rw (p .before .head-of .ensures, p .part .ensures, r .rest .ensures) at (c .answer .ensures))
+    let e = r .before in
+    let p = e .before in
+    held _ _ (hour-few _ _) (rw (p .before .head-of .ensures, p .part .ensures, e .part2 .ensures, r .rest .ensures) at (c .answer .ensures))
 
 put-few-requires : tie.Need-put-few-requires
 put-few-requires c κs = (here (c .before) .most, search needs)
@@ -40,6 +44,7 @@ put-hour-spec =
     (tie.spec
     head-of-requires
     part-requires
+    part-requires-2
     rest-requires
     answer-requires
     put-few-requires

@@ -1,7 +1,5 @@
 -- `question::put_rule` meets its contract: the fields come back out of their box. Assumes nothing.
-use lib.ListN.{drop}
-use Rattle.question.specs.Parts.{headOf}
-use Rattle.rules.specs.Rules.{ruleReply}
+use Rattle.question.specs.Questions.{rulePrints}
 use Rattle.question.proofs.Boxes.{Held, held}
 use Rattle.rules.proofs.Laws.{rule-few}
 use borrow.Author.Needs.{needs}
@@ -11,6 +9,9 @@ use Rattle.question.proofs.put_rule.Tie as tie
 head-of-requires : tie.Need-head-of-requires
 head-of-requires c κs = search needs
 
+part-requires : tie.Need-part-requires
+part-requires c κs = search needs
+
 rest-requires : tie.Need-rest-requires
 rest-requires c κs = search needs
 
@@ -18,10 +19,12 @@ answer-requires : tie.Need-answer-requires
 answer-requires c κs = search needs
 
 -- what the box holds
-here : (c : tie.After-answer) → let a = c .before .before .before .before .args in Held (c .answer .result) (ruleReply (a .rule) (headOf (a .numbers .now)) (drop (a .tail) (a .numbers .now)))
+here : (c : tie.After-answer) → let a = c .before .before .before .before .before .before .args in Held (c .answer .result) (rulePrints (a .rule) (a .numbers .now) (a .places))
 here c =
-    let a = c .before .before .before .before .args in
-    held _ _ (rule-few (a .rule) _ _) (rw (c .before .before .head-of .ensures, c .before .rest .ensures) at (c .answer .ensures))
+    let a = c .before .before .before .before .before .before .args in
+    let r = c .before in
+    let p = r .before in
+    held _ _ (rule-few (a .rule) _ _ _ _) (rw (p .before .head-of .ensures, p .part .ensures, r .rest .ensures) at (c .answer .ensures))
 
 put-few-requires : tie.Need-put-few-requires
 put-few-requires c κs = (here (c .before) .most, search needs)
@@ -35,4 +38,11 @@ returns c = rw (here (c .before .before .before .before) .back) at (c .before .b
 pub put-rule-spec : {M : Type 1} → statement M
 put-rule-spec =
     tie.close
-    (tie.spec head-of-requires rest-requires answer-requires put-few-requires same-length returns)
+    (tie.spec
+    head-of-requires
+    part-requires
+    rest-requires
+    answer-requires
+    put-few-requires
+    same-length
+    returns)

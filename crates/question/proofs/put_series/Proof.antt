@@ -2,13 +2,13 @@
 use Prim.Native.Nat.{_≤_}
 use mathlib.Core.Path.{_≡_, sym}
 use lib.IntN.{pos}
-use lib.ListN.{length, take, drop, replicate}
+use lib.ListN.{length, take, replicate}
 use lib.Seq.{length-take-le}
 use Rattle.units.specs.Limits.{secondsOfHour}
 use Rattle.words.specs.Replies.{Reply}
 use Rattle.series.specs.Inner.{ranOf, ranLeft}
 use Rattle.series.proofs.Laws.{ran-fits, ran-fields, ran-reply}
-use Rattle.question.specs.Parts.{headOf, bandsIn}
+use Rattle.question.specs.Parts.{headOf, givenIn}
 use Rattle.question.specs.Questions.{seriesPrints}
 use Rattle.question.proofs.LineLaws.{series-short}
 use borrow.Author.Needs.{needs}
@@ -21,6 +21,9 @@ head-of-requires c κs = search needs
 part-requires : tie.Need-part-requires
 part-requires c κs = search needs
 
+part-requires-2 : tie.Need-part-requires-2
+part-requires-2 c κs = search needs
+
 rest-requires : tie.Need-rest-requires
 rest-requires c κs = search needs
 
@@ -29,19 +32,20 @@ answer-requires c κs = search needs
 
 -- the answer, and what it leaves
 prints : tie.After-answer → Reply
-prints c = let a = c .before .before .before .before .before .before .before .args in seriesPrints (a .asks) (a .numbers .now) (a .places)
+prints c = let a = c .before .before .before .before .before .before .before .before .before .args in seriesPrints (a .asks) (a .numbers .now) (a .places)
 
-given : (c : tie.After-answer) → (c .answer .result ≡ ranOf (prints c)) × (c .answer .last .1 .1 .1 .1 .0 ≡ ranLeft (prints c) (replicate secondsOfHour (pos 0)))
+given : (c : tie.After-answer) → (c .answer .result ≡ ranOf (prints c)) × (c .answer .last .1 .1 .1 .1 .1 .1 .0 ≡ ranLeft (prints c) (replicate secondsOfHour (pos 0)))
 unfolding prints
 given c =
     let r = c .before .before in
-    let p = r .before in
-    rw (p .before .head-of .ensures, p .part .ensures, r .rest .ensures) at (c .answer .ensures)
+    let e = r .before in
+    let p = e .before in
+    rw (p .before .head-of .ensures, p .part .ensures, e .part2 .ensures, r .rest .ensures) at (c .answer .ensures)
 
-fits : (c : tie.After-answer) → c .answer .result .count ≤ length (c .answer .last .1 .1 .1 .1 .0)
+fits : (c : tie.After-answer) → c .answer .result .count ≤ length (c .answer .last .1 .1 .1 .1 .1 .1 .0)
 fits c = ran-fits (prints c) _ _ _ (given c .0) (given c .1)
 
-fields : (c : tie.After-answer) → take (c .answer .result .count) (c .answer .last .1 .1 .1 .1 .0) ≡ prints c .fields
+fields : (c : tie.After-answer) → take (c .answer .result .count) (c .answer .last .1 .1 .1 .1 .1 .1 .0) ≡ prints c .fields
 fields c = ran-fields (prints c) _ _ _ (given c .0) (given c .1)
 
 array-share-prefix-fields : tie.Need-array-share-prefix-fields
@@ -54,9 +58,9 @@ put-line-requires : tie.Need-put-line-requires
 unfolding prints
 put-line-requires c κs =
     let x = c .before .before in
-    let a = x .before .before .before .before .before .before .before .args in
-    let n = a .numbers .now in
-    (search needs, rw (fields x) (series-short (a .asks) (headOf n) (bandsIn n (a .places)) (drop (a .places .tail) n)))
+    let s = x .before .before .before .before .before .before .before .before .before in
+    let a = s .args in
+    (s .pre, rw (fields x) (series-short (a .asks) (givenIn (headOf (a .numbers .now)) (a .numbers .now) (a .places))))
 
 same-length : tie.Need-same-length
 same-length c = search needs
@@ -73,6 +77,7 @@ put-series-spec =
     (tie.spec
     head-of-requires
     part-requires
+    part-requires-2
     rest-requires
     answer-requires
     array-share-prefix-fields

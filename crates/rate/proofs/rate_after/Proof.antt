@@ -70,9 +70,12 @@ returns : tie.Need-returns Inv-loop μ-loop
 unfolding rateAfter
 returns c = let f = found (c .before) in rw (f .0 ∙ c .if1 .taken, f .1)
 
+no-rate-requires : tie.Need-no-rate-requires Inv-loop μ-loop
+no-rate-requires c κs = tt
+
 returns-2 : tie.Need-returns-2 Inv-loop μ-loop
 unfolding rateAfter
-returns-2 c = rw (found (c .before) .0 ∙ c .if1 .left)
+returns-2 c = rw (found (c .before .before) .0 ∙ c .before .if1 .left) (c .no-rate .ensures)
 
 pub rate-after-spec : {M : Type 1} → statement M
 rate-after-spec =
@@ -88,4 +91,5 @@ rate-after-spec =
     loop-less
     loop-again
     returns
+    no-rate-requires
     returns-2)

@@ -1,24 +1,43 @@
--- `rules::rated` meets its contract: the library's answer, field by field. Assumes nothing.
+-- `rules::rated` meets its contract: the library's answer, field by field; the first four of the earlier scores stand for all. Assumes nothing.
 use Prim.Native.Nat.{ℕ}
-use mathlib.Core.Path.{_≡_, sym, ap, _∙_}
+use native.Mathlib.Omega.{arith}
+use mathlib.Core.Path.{_≡_, sym, ap, ap₂, _∙_}
 use mathlib.Core.List.{List}
 use lib.IntN.{ℤ}
 use lib.ListN.{length, replicate, length-replicate}
 use mir.Facts.{toZ-ofZ}
 use Rattle.units.specs.Limits.{secondsOfHour}
-use Rattle.rules.specs.Rules.{scoresIn, rateReply}
+use Rattle.rate.specs.Rolling.{hourlyRate}
+use Rattle.numbers.specs.Numbers.{asBytes, scoresIn}
+use Rattle.numbers.specs.Inner.{taken}
+use Rattle.numbers.proofs.Bytes.{Lent, lent}
+use Rattle.rules.specs.Rules.{rateReply}
+use Rattle.rules.proofs.Laws.{four-rated}
 use borrow.Author.Needs.{needs}
 use Rattle.rules.proofs.rated.Statement.{statement}
 use Rattle.rules.proofs.rated.Tie as tie
 
-slice-aggregate-fill-scores : tie.Need-slice-aggregate-fill-scores
-slice-aggregate-fill-scores c = search needs
+slice-aggregate-fill-bytes : tie.Need-slice-aggregate-fill-bytes
+slice-aggregate-fill-bytes c = search needs
 
-fill-scores-requires : tie.Need-fill-scores-requires
-fill-scores-requires c κs = search needs
+fill-bytes-requires : tie.Need-fill-bytes-requires
+fill-bytes-requires c κs = search needs
+
+first-four-requires : tie.Need-first-four-requires
+first-four-requires c κs = search needs
+
+-- the first four, as they are lent
+four : (c : tie.After-first-four) → Lent (c .first-four .result)
+four c = lent _ (c .first-four .ensures)
+
+array-share-prefix-first : tie.Need-array-share-prefix-first
+array-share-prefix-first c = omega (arith, four (c .before))
 
 slice-aggregate-hourly-rate : tie.Need-slice-aggregate-hourly-rate
-slice-aggregate-hourly-rate c = search needs
+slice-aggregate-hourly-rate c = omega (arith, four (c .before .before))
+
+slice-aggregate-hourly-rate-2 : tie.Need-slice-aggregate-hourly-rate-2
+slice-aggregate-hourly-rate-2 c = search needs
 
 hourly-rate-requires : tie.Need-hourly-rate-requires
 hourly-rate-requires c κs = search needs
@@ -30,23 +49,30 @@ few-requires : tie.Need-few-requires
 few-requires c κs = search needs
 
 -- over any number, so that no list is written out
-filled : (tail : List ℤ) (m : ℕ) (scores : List ℕ) → length tail ≡ m → scores ≡ scoresIn tail (length {A = ℕ} (replicate m 0)) → scores ≡ scoresIn tail (length tail)
-filled tail m scores l e = e ∙ ap (scoresIn tail) (length-replicate m 0 ∙ sym l)
+filled : (tail : List ℤ) (m : ℕ) (scores : List ℕ) → length tail ≡ m → scores ≡ asBytes tail (length {A = ℕ} (replicate m 0)) → scores ≡ scoresIn tail
+filled tail m scores l e = e ∙ ap (asBytes tail) (length-replicate m 0 ∙ sym l)
 
 returns : tie.Need-returns
 unfolding rateReply
 returns c =
-    let r = c .before .before .hourly-rate in
-    let f = c .before .before .before .before .before in
-    rw (c .few .ensures, toZ-ofZ (cast-few (c .before)), r .ensures, filled _ secondsOfHour _ (f .before .before .pre) (f .fill-scores .ensures))
+    let r = c .before .before in
+    let e = r .before .before .before .before in
+    let f = e .before .before in
+    let a = f .before .before .args in
+    let scores = filled (a .tail .now) secondsOfHour _ (f .before .before .pre) (f .fill-bytes .ensures) in
+    let rated = r .hourly-rate .ensures ∙ ap₂ hourlyRate (ap taken (e .first-four .ensures)) scores ∙ four-rated (scoresIn (a .tail .now)) (a .earlier .now) in
+    rw (c .few .ensures, toZ-ofZ (cast-few (c .before)), rated)
 
 pub rated-spec : {M : Type 1} → statement M
 rated-spec =
     tie.close
     (tie.spec
-    slice-aggregate-fill-scores
-    fill-scores-requires
+    slice-aggregate-fill-bytes
+    fill-bytes-requires
+    first-four-requires
+    array-share-prefix-first
     slice-aggregate-hourly-rate
+    slice-aggregate-hourly-rate-2
     hourly-rate-requires
     cast-few
     few-requires

@@ -19,8 +19,8 @@ singles-requires-3 c κs = search needs
 singles-requires-4 : tie.Need-singles-requires-4
 singles-requires-4 c κs = search needs
 
-seconds-requires : tie.Need-seconds-requires
-seconds-requires c κs = search needs
+scored-requires : tie.Need-scored-requires
+scored-requires c κs = search needs
 
 groups-requires : tie.Need-groups-requires
 groups-requires c κs = search needs
@@ -34,8 +34,8 @@ singles-requires-5 c κs = search needs
 singles-requires-6 : tie.Need-singles-requires-6
 singles-requires-6 c κs = search needs
 
-seconds-requires-2 : tie.Need-seconds-requires-2
-seconds-requires-2 c κs = search needs
+seconds-requires : tie.Need-seconds-requires
+seconds-requires c κs = search needs
 
 singles-requires-7 : tie.Need-singles-requires-7
 singles-requires-7 c κs = search needs
@@ -82,7 +82,7 @@ returns-4 c = rw (c .before .match .keys4) (c .singles4 .ensures)
 
 returns-5 : tie.Need-returns-5
 unfolding questionOf letterOf
-returns-5 c = rw (c .before .match .keys5) (c .seconds .ensures)
+returns-5 c = rw (c .before .match .keys5) (c .scored .ensures)
 
 returns-6 : tie.Need-returns-6
 unfolding questionOf letterOf
@@ -102,7 +102,7 @@ returns-9 c = rw (c .before .match .keys9) (c .singles6 .ensures)
 
 returns-10 : tie.Need-returns-10
 unfolding questionOf letterOf
-returns-10 c = rw (c .before .match .keys10) (c .seconds2 .ensures)
+returns-10 c = rw (c .before .match .keys10) (c .seconds .ensures)
 
 returns-11 : tie.Need-returns-11
 unfolding questionOf letterOf
@@ -152,12 +152,12 @@ question-of-spec =
     singles-requires-2
     singles-requires-3
     singles-requires-4
-    seconds-requires
+    scored-requires
     groups-requires
     groups-requires-2
     singles-requires-5
     singles-requires-6
-    seconds-requires-2
+    seconds-requires
     singles-requires-7
     hourly-requires
     hourly-requires-2

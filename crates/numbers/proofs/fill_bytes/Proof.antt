@@ -1,4 +1,4 @@
--- `rules::fill_scores` meets its contract. The loop's invariant: the run is filled up to i. Assumes nothing.
+-- `numbers::fill_bytes` meets its contract. The loop's invariant: the run is filled up to i. Assumes nothing.
 use borrow.Author.Needs.{needs}
 use Prim.Native.Nat.{ℕ, _-_, _≤_}
 use native.Mathlib.Omega.{arith}
@@ -8,16 +8,15 @@ use mir.Syntax.{w64}
 use Rattle.whole.specs.Runs.{filled, listed}
 use Rattle.whole.proofs.Runs.{filled-next, filled-all}
 use Rattle.whole.proofs.Signed.{back}
-use Rattle.numbers.specs.Numbers.{number, byteOf}
-use Rattle.rules.specs.Rules.{scoresIn}
-use Rattle.rules.proofs.fill_scores.Statement.{statement}
-use Rattle.rules.proofs.fill_scores.Tie as tie
+use Rattle.numbers.specs.Numbers.{number, byteOf, asBytes}
+use Rattle.numbers.proofs.fill_bytes.Statement.{statement}
+use Rattle.numbers.proofs.fill_bytes.Tie as tie
 
 abbrev Inv-loop : tie.InvT-loop
-Inv-loop numbers scores₀ i₀ scores i = (length scores ≡ length scores₀) × (scores ≡ filled (λ (k : ℕ). byteOf (number numbers k)) 0 scores₀ i) × (i ≤ length scores₀)
+Inv-loop numbers run₀ i₀ run i = (length run ≡ length run₀) × (run ≡ filled (λ (k : ℕ). byteOf (number numbers k)) 0 run₀ i) × (i ≤ length run₀)
 
 abbrev μ-loop : tie.MeasureT-loop
-μ-loop numbers scores₀ i₀ scores i = length scores₀ - i
+μ-loop numbers run₀ i₀ run i = length run₀ - i
 
 loop-holds : tie.Need-loop-holds Inv-loop μ-loop
 loop-holds c = (refl, refl, omega arith)
@@ -28,8 +27,8 @@ at-requires c κs = search needs
 byte-of-requires : tie.Need-byte-of-requires Inv-loop μ-loop
 byte-of-requires c κs = search needs
 
-slice-write-scores : tie.Need-slice-write-scores Inv-loop μ-loop
-slice-write-scores c = omega arith
+slice-write-run : tie.Need-slice-write-run Inv-loop μ-loop
+slice-write-run c = omega arith
 
 add-i : tie.Need-add-i Inv-loop μ-loop
 add-i c = omega arith
@@ -44,7 +43,7 @@ loop-again c =
     let i = l .loop .i in
     let v = l .loop .inv in (
       simp length-set (v .0),
-      rw (c .byte-of .ensures, back w64 (c .before .at .ok) (c .before .at .ensures), v .1) (filled-next (λ (k : ℕ). byteOf (number (a .numbers .now) k)) (a .scores .now) i (omega arith)),
+      rw (c .byte-of .ensures, back w64 (c .before .at .ok) (c .before .at .ensures), v .1) (filled-next (λ (k : ℕ). byteOf (number (a .numbers .now) k)) (a .run .now) i (omega arith)),
       omega arith,
     )
 
@@ -52,16 +51,16 @@ same-length : tie.Need-same-length Inv-loop μ-loop
 same-length c = c .before .loop .inv .0
 
 returns : tie.Need-returns Inv-loop μ-loop
-unfolding scoresIn
+unfolding asBytes
 returns c =
     let l = c .before in
     let a = l .before .before .args in
     let f : ℕ → ℕ = λ k. byteOf (number (a .numbers .now) k) in
-    let n : l .loop .i ≡ length (a .scores .now) = omega arith in
-    l .loop .inv .1 ∙ filled-all f 0 (a .scores .now) (l .loop .i) n ∙ ap (listed f 0) n
+    let n : l .loop .i ≡ length (a .run .now) = omega arith in
+    l .loop .inv .1 ∙ filled-all f 0 (a .run .now) (l .loop .i) n ∙ ap (listed f 0) n
 
-pub fill-scores-spec : {M : Type 1} → statement M
-fill-scores-spec =
+pub fill-bytes-spec : {M : Type 1} → statement M
+fill-bytes-spec =
     tie.close
     (tie.spec
     Inv-loop
@@ -69,7 +68,7 @@ fill-scores-spec =
     loop-holds
     at-requires
     byte-of-requires
-    slice-write-scores
+    slice-write-run
     add-i
     loop-less
     loop-again
