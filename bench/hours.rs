@@ -131,8 +131,8 @@ fn judge(
             let s = score(nearest((power - transfer(q, i + 1)) * 100, capacity), frequency);
             *judged = s;
             sums[q] += power;
-            rate = rate.min(c.max(b).max(a).max(s));
-            (c, b, a) = (b, a, s);
+            rate = rate.min(s.max(a).max(b).max(c));
+            (a, b, c) = (s, a, b);
         }
     }
     scores.copy_from_slice(&judged);

@@ -29,10 +29,12 @@ pub enum Fault {
     TwoTaken,
     CountAfterCapacity,
     EarlierBeforeCapacity,
+    UncountedAsNone,
+    ScoreBeforeCount,
 }
 
 /// The name on the command line, the fault, and what it does.
-pub const FAULTS: [(&str, Fault, &str); 24] = [
+pub const FAULTS: [(&str, Fault, &str); 26] = [
     ("half-toward-zero", Fault::HalfTowardZero, "a half is rounded toward zero"),
     ("window-of-three", Fault::WindowOfThree, "a rolling rate looks at three seconds"),
     ("own-second", Fault::OwnSecond, "a power is judged by its own second's frequency"),
@@ -57,6 +59,8 @@ pub const FAULTS: [(&str, Fault, &str); 24] = [
     ("two-taken", Fault::TwoTaken, "two earlier scores are taken"),
     ("count-after-capacity", Fault::CountAfterCapacity, "the 1 of the earlier scores comes after 2"),
     ("earlier-before-capacity", Fault::EarlierBeforeCapacity, "the 4 of the earlier scores comes before 2"),
+    ("uncounted-as-none", Fault::UncountedAsNone, "an E outside 0 to 100 is taken for no earlier score"),
+    ("score-before-count", Fault::ScoreBeforeCount, "in `rate` a score above 100 is told before a wrong number of earlier scores"),
 ];
 
 static CHOSEN: OnceLock<Fault> = OnceLock::new();

@@ -183,7 +183,12 @@ pub struct Earlier {
 impl Earlier {
     /// "The hour takes these 3 earlier scores or 0."
     fn counts(&self) -> bool {
-        self.count == 3 || self.count == 0 || (wrong(Fault::TwoTaken) && self.count == 2)
+        match self.count {
+            0 | 3 => true,
+            2 => wrong(Fault::TwoTaken),
+            1..=100 => false,
+            _ => wrong(Fault::UncountedAsNone),
+        }
     }
 }
 
@@ -217,7 +222,8 @@ fn rate_of(earlier: &[i64], scores: &[i64]) -> i64 {
 
 pub fn rate(earlier: &Earlier, scores: &[i64]) -> Answer<i64> {
     let fit = SCORE.hold_all(&earlier.scores) && SCORE.hold_all(scores);
-    first_refused(hour_order(), &[(1, !earlier.counts()), (4, !fit)])?;
+    let order = if wrong(Fault::ScoreBeforeCount) { &[4, 1] } else { hour_order() };
+    first_refused(order, &[(1, !earlier.counts()), (4, !fit)])?;
     Ok(rate_of(&earlier.scores, scores))
 }
 

@@ -59,15 +59,15 @@ moved_hour = f"{award} {words(DISCHARGE, CHARGE, *TARGETS)}\n{list_s}\n0\n{moved
 
 
 def stumbling(head, terms, earlier):
-    """Its numbers, and its settlement."""
-    settled, _ = model.hour([100000] + [0] * 3599, [60000] * 3600, [0] * 3600, terms, model.THRESHOLDS, model.FACTORS, earlier)
-    return f"{head} {list_s} {words(len(earlier), *earlier)} 100000 60000" + " 0 60000" * 3599, settled
+    """Its numbers, its settlement and its scores."""
+    settled, scores = model.hour([100000] + [0] * 3599, [60000] * 3600, [0] * 3600, terms, model.THRESHOLDS, model.FACTORS, earlier)
+    return f"{head} {list_s} {words(len(earlier), *earlier)} 100000 60000" + " 0 60000" * 3599, settled, scores
 
 
-alone, alone_settled = stumbling(award, terms, [])
-after, after_settled = stumbling(award, terms, [94, 0, 0])
+alone, alone_settled, _ = stumbling(award, terms, [])
+after, after_settled, after_scores = stumbling(award, terms, [94, 0, 0])
 small_terms = (CAPACITY, CLEARING, PERFORMANCE, DISCHARGE, CHARGE, [9] * 5)
-small_after, small_settled = stumbling(f"{award} {words(DISCHARGE, CHARGE, *[9] * 5)}", small_terms, [94, 0, 0])
+small_after, small_settled, _ = stumbling(f"{award} {words(DISCHARGE, CHARGE, *[9] * 5)}", small_terms, [94, 0, 0])
 assert (alone_settled[1], after_settled[1], small_settled[1]) == (0, 94, 94)
 
 
@@ -116,14 +116,17 @@ asked = [
     ("edreg_scores " + moved_hour, words(0, *scores)),
     ("dreg " + alone, words(*alone_settled)),
     ("dreg " + after, words(*after_settled)),
+    ("dreg_scores " + after, words(0, *after_scores)),
     ("edreg " + small_after, words(*small_settled)),
     # a wrong number of earlier scores is refused first, an earlier score above 100 last
+    ("dreg 0 0 0 1 0 0 101 " + "0 0 " * 3600, words(1, *[0] * 7)),
     ("dreg 0 0 0 1 0 0 3 101 0 0 " + "0 0 " * 3600, words(2, *[0] * 7)),
     ("dreg 1 0 0 1 0 0 3 101 0 0 " + "0 60000 " * 3600, words(4, *[0] * 7)),
     ("edreg_scores " + "0 " * 10 + "0 2 101 0 " + "0 0 " * 3600, "1"),
     ("frame 0 31 0 0", frame(0, 31, 0, 0)),
     ("dreg_frame 12 14 " + hour, frame(1, 12, 14, settled[7])),
     ("edreg_frame 12 15 " + moved_hour, frame(1, 12, 15, moved_settled[7])),
+    ("edreg_frame 12 16 " + small_after, frame(1, 12, 16, small_settled[7])),
     # a capacity of 0 is refused before the day is looked at
     ("edreg_frame 300 0 " + "0 " * 10 + "0 0 " + "0 " * 7200, "2"),
     ("frame 6 0 0 100800", frame(6, 0, 0, 100800)),

@@ -414,8 +414,6 @@ AFTER = [
     ("100 100 100, a zero", [100, 100, 100], 1, 100),
     ("90 0 0, a zero", [90, 0, 0], 1, 90),
     ("90 0 0, two zeros", [90, 0, 0], 2, 0),
-    ("0 90 0, two zeros", [0, 90, 0], 2, 90),
-    ("0 0 90, three zeros", [0, 0, 90], 3, 90),
     ("0 0 90, four zeros", [0, 0, 90], 4, 0),
 ]
 for label, earlier, count, r in AFTER:
@@ -427,16 +425,12 @@ for label, earlier, count, r in AFTER:
 
 line("refused earlier scores: 1 first, 4 last")
 for label, k, capacity, last, earlier in [
-    ("one", 1, 10000, 0, [100]),
     ("two", 1, 10000, 0, [100, 100]),
     ("four", 1, 10000, 0, [100] * 4),
-    ("two, one of them 101", 1, 10000, 0, [100, 101]),
-    ("two, and capacity 0", 1, 0, 0, [100, 100]),
-    ("101 first", 4, 10000, 0, [101, 100, 100]),
-    ("101 last", 4, 10000, 0, [100, 100, 101]),
-    ("255, and a power above", 4, 10000, 200001, [100, 255, 100]),
+    ("two, one of them 101, and capacity 0", 1, 0, 0, [100, 101]),
     ("101, and capacity 0", 2, 0, 0, [101, 100, 100]),
-    ("100 100 100, and a power above", 4, 10000, 200001, [100] * 3),
+    ("101", 4, 10000, 0, [100, 100, 101]),
+    ("101, and a power above", 4, 10000, 200001, [100, 101, 100]),
 ]:
     powers = zeros[1:] + [last]
     assert dreg(label, powers, still, capacity, earlier)[0] == k
@@ -458,6 +452,4 @@ some = but(0, 0, 1, 100000)
 m = join("none, a zero", 0, some, 0, m, 3, 10)
 m = join("100 100 100, a zero", 0, some, 0, m, 3, 11, [100] * 3)
 m = join("two", 1, some, 0, m, 3, 12, [100] * 2)
-m = join("101, place filled", 4, some, 0, m, 3, 10, [100, 101, 100])
-m = join("101, a target above", 10, some, 100001, m, 3, 12, [101, 100, 100])
-join("100 100 100, place filled", 7, some, 0, m, 3, 10, [100] * 3)
+join("101, place filled", 4, some, 0, m, 3, 10, [100, 101, 100])

@@ -22,8 +22,6 @@ fn each(shifting: bool) {
     zeros(b"100 100 100, a zero", shifting, &[100, 100, 100], 1);
     zeros(b"90 0 0, a zero", shifting, &[90, 0, 0], 1);
     zeros(b"90 0 0, two zeros", shifting, &[90, 0, 0], 2);
-    zeros(b"0 90 0, two zeros", shifting, &[0, 90, 0], 2);
-    zeros(b"0 0 90, three zeros", shifting, &[0, 0, 90], 3);
     zeros(b"0 0 90, four zeros", shifting, &[0, 0, 90], 4);
 }
 
@@ -46,21 +44,12 @@ fn zeros(label: &[u8], shifting: bool, earlier: &[u8], count: usize) {
 
 pub(crate) fn refused() {
     text::heading(b"refused earlier scores: 1 first, 4 last");
-    attempt(b"one", 10_000, 0, &[100]);
     attempt(b"two", 10_000, 0, &[100, 100]);
     attempt(b"four", 10_000, 0, &[100, 100, 100, 100]);
-    attempt(b"two, one of them 101", 10_000, 0, &[100, 101]);
-    attempt(b"two, and capacity 0", 0, 0, &[100, 100]);
-    attempt(b"101 first", 10_000, 0, &[101, 100, 100]);
-    attempt(b"101 last", 10_000, 0, &[100, 100, 101]);
-    attempt(b"255, and a power above", 10_000, 200_001, &[100, 255, 100]);
+    attempt(b"two, one of them 101, and capacity 0", 0, 0, &[100, 101]);
     attempt(b"101, and capacity 0", 0, 0, &[101, 100, 100]);
-    attempt(
-        b"100 100 100, and a power above",
-        10_000,
-        200_001,
-        &[100, 100, 100],
-    );
+    attempt(b"101", 10_000, 0, &[100, 100, 101]);
+    attempt(b"101, and a power above", 10_000, 200_001, &[100, 101, 100]);
 }
 
 // A dReg and an E-dReg hour on this capacity, with this last power.
@@ -83,15 +72,15 @@ pub(crate) fn in_a_row() {
     text::heading(b"two hours, one after the other");
     let none = [0u8; 0];
     let mut powers = [0i64; limits::SECONDS];
-    let mut scores = [7u8; limits::SECONDS];
+    let mut first = [7u8; limits::SECONDS];
+    let mut second = [7u8; limits::SECONDS];
     readings::stretch(&mut powers, 3_597, limits::SECONDS, 100_000);
     readings::stretch(&mut powers, 3_598, 3_599, 1_900);
-    still(b"the first", &powers, &none, &mut scores);
-    let last = readings::last_three(&scores);
+    still(b"the first", &powers, &none, &mut first);
     readings::stretch(&mut powers, 0, 2, 100_000);
     readings::stretch(&mut powers, 2, limits::SECONDS, 0);
-    still(b"the second", &powers, &last, &mut scores);
-    still(b"the second, by itself", &powers, &none, &mut scores);
+    still(b"the second", &powers, &first[3_597..], &mut second);
+    still(b"the second, by itself", &powers, &none, &mut second);
 }
 
 // A dReg hour at 60 Hz.
@@ -107,45 +96,25 @@ fn still(label: &[u8], powers: &[i64], earlier: &[u8], scores: &mut [u8]) {
     );
 }
 
-// A first second that scores 0.
 pub(crate) fn joint() {
     text::heading(b"joint calls after an hour");
     let mut powers = [0i64; limits::SECONDS];
     readings::stretch(&mut powers, 0, 1, 100_000);
-    let m = posts(&powers, joint_cases::opened(30));
-    refused_posts(&powers, m);
+    joins(&powers);
 }
 
-fn posts(powers: &[i64], m: Month) -> Month {
+// A first second that scores 0.
+fn joins(powers: &[i64]) {
     let none = [0u8; 0];
-    let m = join(b"none, a zero", powers, 0, &none, m, 10);
-    join(b"100 100 100, a zero", powers, 0, &[100, 100, 100], m, 11)
-}
-
-// What the hour refuses comes before what the ledger does.
-fn refused_posts(powers: &[i64], m: Month) {
-    let m = join(b"two", powers, 0, &[100, 100], m, 12);
-    let m = join(b"101, place filled", powers, 0, &[100, 101, 100], m, 10);
-    let m = join(
-        b"101, a target above",
-        powers,
-        100_001,
-        &[101, 100, 100],
-        m,
-        12,
-    );
-    join(
-        b"100 100 100, place filled",
-        powers,
-        0,
-        &[100, 100, 100],
-        m,
-        10,
-    );
+    let m = joint_cases::opened(30);
+    let m = join(b"none, a zero", powers, &none, m, 10);
+    let m = join(b"100 100 100, a zero", powers, &[100, 100, 100], m, 11);
+    let m = join(b"two", powers, &[100, 100], m, 12);
+    join(b"101, place filled", powers, &[100, 101, 100], m, 10);
 }
 
 // On day 3.
-fn join(label: &[u8], powers: &[i64], target: i64, earlier: &[u8], m: Month, hour: u8) -> Month {
+fn join(label: &[u8], powers: &[i64], earlier: &[u8], m: Month, hour: u8) -> Month {
     let frequencies = [60_000i64; limits::SECONDS];
-    joint_cases::join_after(label, powers, &frequencies, target, earlier, m, 3, hour)
+    joint_cases::join_after(label, powers, &frequencies, 0, earlier, m, 3, hour)
 }

@@ -31,18 +31,6 @@ pub(crate) fn follow(run: &mut [i64], targets: &[i64]) {
     ramp::plan(targets, run);
 }
 
-// The last three scores of a run, and zeros where it has fewer.
-pub(crate) fn last_three(run: &[u8]) -> [u8; 3] {
-    let n = run.len();
-    if n < 3 {
-        return [0; 3];
-    }
-    let oldest = run[n - 3];
-    let middle = run[n - 2];
-    let newest = run[n - 1];
-    [oldest, middle, newest]
-}
-
 pub(crate) fn score_sum(run: &[u8]) -> u64 {
     let mut sum = 0;
     let mut i = 0;

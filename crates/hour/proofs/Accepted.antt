@@ -79,6 +79,11 @@ energy-plain powers dReg long readings prices targets five = refl
 energy-plain powers (eDReg s) long readings prices targets five =
     ap (λ (x : Charged). x .dollars .0) (energy-granted (energy-fit powers s long readings prices targets five))
 
+-- scores by a rule that gives at most 100 are scores
+pub scored-small : (scores : List ℕ) {rule : ℕ → ℕ} → length scores ≡ secondsOfHour → ((i : ℕ) → i < secondsOfHour → getD scores i 0 ≡ rule i) → ((i : ℕ) → rule i ≤ mostScore)
+    → areScores scores ≡ true
+scored-small scores long is most = are-scores scores (λ i l. subst (λ (n : ℕ). n ≤ mostScore) (sym (is i (omega (arith, long)))) (most i))
+
 module _ (h : WholeHour) (places : ℕ) (f : HourFits h places) (five : Five (h .service)) where
   lengths : Long (length (h .powers)) (length (h .frequencies)) (length (h .earlier)) places
   lengths = long-of h places (f .lengths)
@@ -126,11 +131,8 @@ module _ (h : WholeHour) (places : ℕ) (f : HourFits h places) (five : Five (h 
 
   -- ---- the rate and the factor
 
-  scores-small : areScores (scoresOf h) ≡ true
-  scores-small = are-scores (scoresOf h) (λ i l. subst (λ (n : ℕ). n ≤ mostScore) (sym (score-plain i (omega (arith, scores-long)))) (score-most _ _ _))
-
   pub hour-scores-fit : ScoresFit (h .earlier) (scoresOf h)
-  hour-scores-fit = record { long = scores-long; counted = lengths .counted; before = before; small = scores-small }
+  hour-scores-fit = record { long = scores-long; of-earlier = lengths .of-earlier; before = before; small = scored-small _ scores-long score-plain (λ i. score-most _ _ _) }
 
   rate-plain : rateOf h ≡ smallest (rolling (h .earlier) (scoresOf h))
   rate-plain = ap (λ (x : Rated). x .rate) (rate-granted (h .earlier) (scoresOf h) hour-scores-fit)

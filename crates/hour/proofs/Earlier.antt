@@ -1,31 +1,31 @@
 -- THE THREE SECONDS BEFORE THE HOUR (document 02, #102), of the hour: with no earlier score the answer, and the run that is left, are the old ones; earlier scores raise an accepted
 -- hour's rate or leave it; and two accepted hours, the second handed the last three scores of the first, are rated as one run of seconds, so that nothing depends on where the hour is cut. By
 -- the laws of the rate; over the contracts of `hour` and `dreg_hour` as the source states them. Assumes nothing.
-use Prim.Native.Nat.{ℕ, _≤_, _<_}
-use mathlib.Core.Path.{_≡_, refl, sym, ap, _∙_, subst}
+use Prim.Native.Nat.{ℕ, _≤_}
+use mathlib.Core.Path.{_≡_, refl, sym, ap, _∙_}
 use mathlib.Core.Bool.{true, and-true}
-use mathlib.Core.List.{List, []}
+use mathlib.Core.List.{List, [], _∷_}
 use native.Mathlib.Omega.{arith}
-use lib.ListN.{length, getD}
+use lib.ListN.{length}
 use contract.Lifetimes.{Lfts}
 use borrow.Fn.Kinds.{Dens, GoodsP, endedOf}
 use denote.Triple.Clauses.{AtExit}
 use borrow.Author.Tests.{eq-eqb}
 use Rattle.whole.proofs.Choice.{and-both, passed-all}
-use Rattle.units.specs.Limits.{mostScore, secondsOfHour, earlierScores}
+use Rattle.units.specs.Limits.{earlierScores}
 use Rattle.score.proofs.Laws.{score-most}
 use Rattle.rate.specs.Rolling.{earlierFit, areScores, rolling, smallest, hourlyRate}
 use Rattle.rate.specs.Earlier.{rateAlone, lastThree}
 use Rattle.rate.specs.declared.Rated.{Rated}
-use Rattle.rate.proofs.Rates.{are-scores, rate-granted}
-use Rattle.rate.proofs.Earlier.{none-are, none-alone, alone-granted, none-least, first-hour, second-hour, handed-on}
+use Rattle.rate.proofs.Rates.{rate-granted}
+use Rattle.rate.proofs.Earlier.{none-are, none-alone, alone-granted, none-least, larger-more, first-hour, second-hour, handed-on}
 use Rattle.hour.specs.Hour.{WholeHour, secondsFit, readingsFit, hourRefusal, scoresOf, scoresLeft, grantedHour, settledOf, rateOf, hourAnswer}
 use Rattle.hour.specs.Accepted.{Accepted, HourFits}
 use Rattle.hour.specs.Calls.{hourHanded, hourRun, dRegHanded, dRegRun}
 use Rattle.hour.specs.Earlier.{hourAloneTests, hourAloneRefusal, hourAlone, leftAlone, OneRun}
 use Rattle.hour.specs.declared.Settlement.{Settlement}
 use Rattle.hour.proofs.Laws.{fit, refusal-is, hour-granted}
-use Rattle.hour.proofs.Accepted.{Five, five-targets, hour-scores-fit, hour-accepted, dreg-hour-accepted}
+use Rattle.hour.proofs.Accepted.{Five, five-targets, scored-small, hour-scores-fit, hour-accepted, dreg-hour-accepted}
 use Rattle.hour.proofs.hour.Reads as hour-reads
 use Rattle.hour.proofs.hour.Kinds as hour-kinds
 use Rattle.hour.proofs.dreg_hour.Reads as dreg-reads
@@ -45,7 +45,7 @@ module _ (h : WholeHour) (none : h .earlier ≡ []) where
   unfolding hourAnswer hourAlone
   hour-alone places = rw (none-refusal places, none-rate)
 
-  pub left-alone : (run : List ℕ) → scoresLeft h run ≡ leftAlone h run
+  left-alone : (run : List ℕ) → scoresLeft h run ≡ leftAlone h run
   unfolding scoresLeft leftAlone
   left-alone run = rw (none-refusal (length run))
 
@@ -72,15 +72,20 @@ hour-raised h places five accepted =
 -- ---- nothing depends on where the hour is cut
 
 module _ {h : WholeHour} {scores : List ℕ} {r : Settlement} (a : Accepted h scores r) where
-  small : areScores scores ≡ true
-  small = are-scores scores (λ i l. subst (λ (n : ℕ). n ≤ mostScore) (sym (a .score i (omega (arith, a .seconds)))) (score-most _ _ _))
-
   enough : earlierScores ≤ length scores
   enough = omega (arith, a .seconds)
 
   -- what an accepted hour leaves may always be handed on
   pub hands-on : (earlierFit (length (lastThree scores)) ≡ true) × (areScores (lastThree scores) ≡ true)
-  hands-on = handed-on scores enough small
+  hands-on = handed-on scores enough (scored-small scores (a .seconds) (a .score) (λ i. score-most _ _ _))
+
+-- of two accepted hours with the same scores, the one after larger scores is rated no lower
+pub larger-rate : {g h : WholeHour} {scores : List ℕ} {x y : Settlement} → Accepted g scores x → Accepted h scores y
+    → {a b c p q r : ℕ} → g .earlier ≡ a ∷ b ∷ c ∷ [] → h .earlier ≡ p ∷ q ∷ r ∷ [] → a ≤ p → b ≤ q → c ≤ r → x .rate ≤ y .rate
+larger-rate {scores = scores} s t {a} {b} {c} {p} {q} {r} e f i j k =
+    let one = s .rate ∙ ap (λ (v : List ℕ). smallest (rolling v scores)) e in
+    let other = t .rate ∙ ap (λ (v : List ℕ). smallest (rolling v scores)) f in
+    rw (one, other) (larger-more a b c p q r scores i j k)
 
 -- two accepted hours, of any service, the second handed the last three scores of the first
 pub one-run : {g h : WholeHour} {first second : List ℕ} {x y : Settlement} → Accepted g first x → Accepted h second y → h .earlier ≡ lastThree first

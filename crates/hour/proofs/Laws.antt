@@ -38,14 +38,14 @@ pub record Long (powers frequencies earlier places : ℕ) : Type 0 where
   pub of-powers : powers ≡ secondsOfHour
   pub of-frequencies : frequencies ≡ secondsOfHour
   pub of-places : places ≡ secondsOfHour
-  pub counted : earlierFit earlier ≡ true
+  pub of-earlier : earlierFit earlier ≡ true
 
 pub long : (powers frequencies earlier places : ℕ) → lengthsFit powers frequencies earlier places ≡ true → Long powers frequencies earlier places
 long p f n s e =
     let c = and-both (secondsFit p f s) (earlierFit n) e in
     let a = and-both (eqb p secondsOfHour && eqb f secondsOfHour) (eqb s secondsOfHour) (c .0) in
     let b = and-both (eqb p secondsOfHour) (eqb f secondsOfHour) (a .0) in
-    record { of-powers = eqb-true p secondsOfHour (b .0); of-frequencies = eqb-true f secondsOfHour (b .1); of-places = eqb-true s secondsOfHour (a .1); counted = c .1 }
+    record { of-powers = eqb-true p secondsOfHour (b .0); of-frequencies = eqb-true f secondsOfHour (b .1); of-places = eqb-true s secondsOfHour (a .1); of-earlier = c .1 }
 
 pub long-of : (h : WholeHour) (places : ℕ) → lengthsFit (length (h .powers)) (length (h .frequencies)) (length (h .earlier)) places ≡ true
     → Long (length (h .powers)) (length (h .frequencies)) (length (h .earlier)) places
@@ -129,7 +129,7 @@ module _ (h : WholeHour) (places : ℕ) (f : TermsFit h places) where
         transfers-fit (h .service) (f .targets),
       )
 
-  pub worked-refusal-is : workedRefusal (h .powers) (h .frequencies) (transfersOf (h .service)) (h .terms .capacity) (h .earlier) places ≡ ofReadings h
+  worked-refusal-is : workedRefusal (h .powers) (h .frequencies) (transfersOf (h .service)) (h .terms .capacity) (h .earlier) places ≡ ofReadings h
   unfolding workedRefusal
   worked-refusal-is =
       by-test (areScores (h .earlier)) (λ (t : areScores (h .earlier) ≡ true). rw (t, run-refusal-is)) (λ (t : areScores (h .earlier) ≡ false). rw t)

@@ -1,6 +1,6 @@
 -- THE THREE SECONDS BEFORE THE HOUR (document 02, #102), of the joint call: with no earlier score it posts the old hour; earlier scores raise its rate or leave it; and two of them, the
 -- second handed the last three scores of the first, are rated as one run of seconds. By the hour's theorems; over the contract as the source states it. Assumes nothing.
-use Prim.Native.Nat.{ℕ, _≤_}
+use Prim.Native.Nat.{_≤_}
 use mathlib.Core.Path.{_≡_, sym, ap, _∙_}
 use mathlib.Core.List.{[]}
 use contract.Lifetimes.{Lfts}

@@ -23,7 +23,7 @@ unfolding asBytes
 length-bytes n many = length-listed (λ (i : ℕ). byteOf (number n i)) 0 many
 
 -- the first four as they are lent: the count is that of scores in the array
-pub four-most : (n : List ℤ) → firstFour n .count ≤ 4
+four-most : (n : List ℤ) → firstFour n .count ≤ 4
 unfolding firstFour
 four-most n = omega arith
 
@@ -38,18 +38,18 @@ lent n {e} h =
     record { fits = f; long = length-take-le (e .count) (e .scores) f }
 
 -- the first four, as the numbers have them
-pub four-is : (n : List ℤ) → taken (firstFour n) ≡ asBytes n (min (length n) 4)
+four-is : (n : List ℤ) → taken (firstFour n) ≡ asBytes n (min (length n) 4)
 unfolding firstFour asBytes
 four-is n = take-listed (λ (i : ℕ). byteOf (number n i)) 0 (min (length n) 4) 4 (omega arith)
 
-pub four-all : (n : List ℤ) → length n ≤ 4 → taken (firstFour n) ≡ scoresIn n
+four-all : (n : List ℤ) → length n ≤ 4 → taken (firstFour n) ≡ scoresIn n
 four-all n h = four-is n ∙ ap (asBytes n) (omega arith)
 
-pub four-many : (n : List ℤ) → 4 < length n → length (taken (firstFour n)) ≡ 4
+four-many : (n : List ℤ) → 4 < length n → length (taken (firstFour n)) ≡ 4
 four-many n h = ap length (four-is n) ∙ length-bytes n (min (length n) 4) ∙ omega arith
 
 -- all of them, or four of more
-pub four-of : (n : List ℤ) → (taken (firstFour n) ≡ scoresIn n) ⊎ ((length (taken (firstFour n)) ≡ 4) × (4 < length (scoresIn n)))
+four-of : (n : List ℤ) → (taken (firstFour n) ≡ scoresIn n) ⊎ ((length (taken (firstFour n)) ≡ 4) × (4 < length (scoresIn n)))
 four-of n =
     by-test (leb (length n) 4) (λ (t : leb (length n) 4 ≡ true). inl (four-all n (leb-true (length n) 4 t)))
     (λ (t : leb (length n) 4 ≡ false).

@@ -103,12 +103,11 @@ hour-short h =
     scores-short (settlement h .refusal) (length (h .hour .powers)) _ (λ z. sym (length-listed _ 0 _) ∙ scores-all h z) (λ i. omega (arith, score-small (h .hour) i))
 
 -- the fields of a run: at most 900, or short
-pub series-short : (asks : Series) (given : HourNumbers) → Short (seriesReply asks given .fields)
+pub series-short : (asks : Series) (n : List ℤ) (given : HourNumbers) → Short (seriesReply asks n given .fields)
 unfolding rampReply scoresReply
-series-short Ramp given =
-    let n = given .terms in
+series-short Ramp n given =
     let quarter : length (rampOf (number n 0) (number n 1)) ≤ secondsOfQuarter = omega (arith, ramp-ramped (number n 0) (number n 1) .seconds) in
     let none : length {A = ℤ} [] ≤ secondsOfQuarter = omega arith in
     few-fields (rampReply n .fields) (kept-any (λ (l : List ℤ). length l ≤ secondsOfQuarter) (rampRefusal (kilowatts (number n 0)) (kilowatts (number n 1)) secondsOfQuarter) {new = rampOf (number n 0) (number n 1)} {old = []} (λ z. quarter) none)
-series-short DregScores given = λ t. hour-short (hourAsked Dreg given)
-series-short EdregScores given = λ t. hour-short (hourAsked Edreg given)
+series-short DregScores n given = λ t. hour-short (hourAsked Dreg given)
+series-short EdregScores n given = λ t. hour-short (hourAsked Edreg given)

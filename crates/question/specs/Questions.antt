@@ -34,7 +34,7 @@ abbrev pub hourPrints : Hour → List ℤ → Places → Reply
 hourPrints hour n places = hourReply hour (givenIn (headOf n) n places)
 
 abbrev pub seriesPrints : Series → List ℤ → Places → Reply
-seriesPrints asks n places = seriesReply asks (givenIn (headOf n) n places)
+seriesPrints asks n places = seriesReply asks (headOf n) (givenIn (headOf n) n places)
 
 -- a frame, or two; where it is an hour's, the hour's terms stand after its day and its hour
 abbrev pub framePrints : Framing → List ℤ → Places → Framed

@@ -1,7 +1,7 @@
 -- THE THREE SECONDS BEFORE THE HOUR (document 02, #102): with no earlier score the rate is the old one; earlier scores raise it or leave it; and with the last three scores of the hour
 -- before, it is the smallest over the windows of both hours' scores put one after the other, so that nothing depends on where the hour is cut. By the one pass that carries three scores; over
 -- the contract of `hourly_rate` as the toolchain reads it. Assumes nothing.
-use Prim.Native.Nat.{ℕ, zero, suc, _-_, _+_, _≤_, _<_, max, zero-le}
+use Prim.Native.Nat.{ℕ, zero, suc, _-_, _+_, _≤_, max, zero-le}
 use mathlib.Core.Path.{_≡_, refl, sym, ap, ap₂, _∙_}
 use mathlib.Core.Bool.{true, and-true}
 use mathlib.Core.List.{List, [], _∷_, _++_, append-assoc}
@@ -16,7 +16,7 @@ use denote.Triple.Clauses.{AtExit}
 use borrow.Fn.Kinds.{endedOf}
 use Rattle.units.specs.Limits.{earlierScores, secondsOfHour}
 use Rattle.rate.specs.Rolling.{smallest, rolling, earlierFit, areScores, scoresRefusal, hourlyRate}
-use Rattle.rate.specs.Earlier.{aloneRefusal, rateAlone, lastThree}
+use Rattle.rate.specs.Earlier.{WindowsAfter, aloneRefusal, rateAlone, lastThree}
 use Rattle.rate.specs.Accepted.{ScoresFit}
 use Rattle.rate.specs.Inner.{carried}
 use Rattle.rate.specs.declared.Rated.{Rated}
@@ -25,15 +25,6 @@ use Rattle.rate.proofs.hourly_rate.Reads as hourly-rate
 use Rattle.rate.proofs.hourly_rate.Kinds as hourly-rate-kinds
 
 -- ---- the first windows
-
--- "its last three scores now belong to the first three windows": the rolling rates of an hour that begins with the scores x₁ x₂ x₃, after the scores e₁ e₂ e₃; from the fourth second on
--- the windows hold only the hour's own seconds
-pub record WindowsAfter (e₁ e₂ e₃ x₁ x₂ x₃ : ℕ) (scores : List ℕ) : Type 0 where
-  pub second-1 : getD (rolling (e₁ ∷ e₂ ∷ e₃ ∷ []) scores) 0 0 ≡ max x₁ (max e₃ (max e₂ e₁))
-  pub second-2 : getD (rolling (e₁ ∷ e₂ ∷ e₃ ∷ []) scores) 1 0 ≡ max x₂ (max x₁ (max e₃ e₂))
-  pub second-3 : getD (rolling (e₁ ∷ e₂ ∷ e₃ ∷ []) scores) 2 0 ≡ max x₃ (max x₂ (max x₁ e₃))
-  pub from-4 : (t : ℕ) → t + 3 < length scores
-      → getD (rolling (e₁ ∷ e₂ ∷ e₃ ∷ []) scores) (t + 3) 0 ≡ max (getD scores (t + 3) 0) (max (getD scores (t + 2) 0) (max (getD scores (t + 1) 0) (getD scores t 0)))
 
 pub hour-windows-after : (e₁ e₂ e₃ x₁ x₂ x₃ : ℕ) (later : List ℕ) → WindowsAfter e₁ e₂ e₃ x₁ x₂ x₃ (x₁ ∷ x₂ ∷ x₃ ∷ later)
 hour-windows-after e₁ e₂ e₃ x₁ x₂ x₃ later =
@@ -61,7 +52,7 @@ none-alone scores = rw (none-refusal scores)
 
 -- scores that fit after any earlier ones fit after none
 pub alone-granted : (earlier scores : List ℕ) → ScoresFit earlier scores → rateAlone scores ≡ record { refusal = 0; rate = smallest (rolling [] scores) }
-alone-granted earlier scores f = sym (none-alone scores) ∙ rate-granted [] scores (record { long = f .long; counted = refl; before = none-are; small = f .small })
+alone-granted earlier scores f = sym (none-alone scores) ∙ rate-granted [] scores (record { long = f .long; of-earlier = refl; before = none-are; small = f .small })
 
 -- ---- earlier scores raise a rate, or leave it
 
@@ -144,10 +135,14 @@ handed-on scores h e =
 
 -- ---- over the contract
 
+-- an answer that refuses nothing
+plain : (earlier scores : List ℕ) (x : Rated) → x ≡ hourlyRate earlier scores → x .refusal ≡ 0 → x .rate ≡ smallest (rolling earlier scores)
+plain earlier scores x p z = ap (λ (r : Rated). r .rate) p ∙ rate-is earlier scores (sym (ap (λ (r : Rated). r .refusal) p) ∙ z)
+
 -- with no earlier score the answer is the old one
-pub hourly-rate-alone : (κs : Lfts 2) (earlier scores : RefT (List ℕ)) (x : Rated) (s : AtExit (endedOf 2 hourly-rate-kinds.ps hourly-rate-kinds.r) κs)
+pub hourly-rate-as-before : (κs : Lfts 2) (earlier scores : RefT (List ℕ)) (x : Rated) (s : AtExit (endedOf 2 hourly-rate-kinds.ps hourly-rate-kinds.r) κs)
     → hourly-rate.Post κs (earlier, (scores, tt)) x s → now earlier ≡ [] → x ≡ rateAlone (now scores)
-hourly-rate-alone κs earlier scores x s p e = p ∙ ap (λ (l : List ℕ). hourlyRate l (now scores)) e ∙ none-alone (now scores)
+hourly-rate-as-before κs earlier scores x s p e = p ∙ ap (λ (l : List ℕ). hourlyRate l (now scores)) e ∙ none-alone (now scores)
 
 -- an earlier score can only raise the rate: beside the answer to the same scores with none
 pub hourly-rate-raised : (κs : Lfts 2) (earlier scores : RefT (List ℕ)) (x : Rated) (s : AtExit (endedOf 2 hourly-rate-kinds.ps hourly-rate-kinds.r) κs)
@@ -155,13 +150,20 @@ pub hourly-rate-raised : (κs : Lfts 2) (earlier scores : RefT (List ℕ)) (x : 
 hourly-rate-raised κs earlier scores x s p z =
     let granted = sym (ap (λ (r : Rated). r .refusal) p) ∙ z in
     let alone = alone-granted (now earlier) (now scores) (scores-fit (now earlier) (now scores) (sym (rate-refusal (now earlier) (now scores)) ∙ granted)) in
-    let rate = ap (λ (r : Rated). r .rate) p ∙ rate-is (now earlier) (now scores) granted in
-    (ap (λ (r : Rated). r .refusal) alone, rw (ap (λ (r : Rated). r .rate) alone, rate) (none-least (now earlier) (now scores)))
+    (ap (λ (r : Rated). r .refusal) alone, rw (ap (λ (r : Rated). r .rate) alone, plain (now earlier) (now scores) x p z) (none-least (now earlier) (now scores)))
+
+-- and a larger one never lowers it: beside the answer to the same scores with three that are no larger
+pub hourly-rate-larger : (κs ηs : Lfts 2) (earlier later scores also : RefT (List ℕ)) (x y : Rated) (s : AtExit (endedOf 2 hourly-rate-kinds.ps hourly-rate-kinds.r) κs)
+    (t : AtExit (endedOf 2 hourly-rate-kinds.ps hourly-rate-kinds.r) ηs) → hourly-rate.Post κs (earlier, (scores, tt)) x s → hourly-rate.Post ηs (later, (also, tt)) y t → now also ≡ now scores
+    → {a b c p q r : ℕ} → now earlier ≡ a ∷ b ∷ c ∷ [] → now later ≡ p ∷ q ∷ r ∷ [] → a ≤ p → b ≤ q → c ≤ r → x .refusal ≡ 0 → y .refusal ≡ 0 → x .rate ≤ y .rate
+hourly-rate-larger κs ηs earlier later scores also x y s t met next same {a} {b} {c} {p} {q} {r} e f h k l z w =
+    let one = plain (now earlier) (now scores) x met z ∙ ap (λ (v : List ℕ). smallest (rolling v (now scores))) e in
+    let other = plain (now later) (now also) y next w ∙ (λ i. smallest (rolling (f i) (same i))) in
+    rw (one, other) (larger-more a b c p q r (now scores) h k l)
 
 -- with the last three scores of the hour before: the smallest over the windows of both hours' scores, from the second hour's first second on
 pub hourly-rate-cut : (κs : Lfts 2) (earlier scores : RefT (List ℕ)) (x : Rated) (s : AtExit (endedOf 2 hourly-rate-kinds.ps hourly-rate-kinds.r) κs)
     → hourly-rate.Post κs (earlier, (scores, tt)) x s → x .refusal ≡ 0 → (first : List ℕ) → earlierScores ≤ length first → now earlier ≡ lastThree first
     → x .rate ≡ smallest (drop (length first) (rolling [] (first ++ now scores)))
 hourly-rate-cut κs earlier scores x s p z first h e =
-    let granted = sym (ap (λ (r : Rated). r .refusal) p) ∙ z in
-    ap (λ (r : Rated). r .rate) p ∙ rate-is (now earlier) (now scores) granted ∙ ap (λ (l : List ℕ). smallest (rolling l (now scores))) e ∙ ap smallest (second-hour [] first (now scores) h)
+    plain (now earlier) (now scores) x p z ∙ ap (λ (l : List ℕ). smallest (rolling l (now scores))) e ∙ ap smallest (second-hour [] first (now scores) h)

@@ -9,15 +9,15 @@ use native.Mathlib.Omega.{arith}
 use lib.Dec.{eqb}
 use lib.ListN.{length, take, getD}
 use borrow.Author.Tests.{eqb-true, eq-eqb, ne-eqb, leb-true, le-leb}
-use Rattle.whole.specs.Choice.{inOrder}
-use Rattle.whole.proofs.Choice.{clash, both, and-both, by-test, all-passed, passed-all, kept-old}
+use Rattle.whole.proofs.Choice.{clash, both, and-both, by-test, all-passed, passed-all}
 use Rattle.whole.proofs.Folds.{all-at, all-of}
 use Rattle.units.specs.Refusals.{wrongLength, badReading}
 use Rattle.units.specs.Limits.{mostScore, earlierScores, secondsOfHour}
-use Rattle.rate.specs.Rolling.{windows, largest, smallest, smallestFrom, rolling, earlierFit, isScoreAt, areScores, scoresRefusal, noRate, hourlyRate}
+use Rattle.rate.specs.Rolling.{windows, largest, smallest, smallestFrom, rolling, earlierFit, rateLengths, isScoreAt, areScores, scoresRefusal, noRate, hourlyRate}
 use Rattle.rate.specs.Inner.{carried, rateAfter, earlierRefusal}
 use Rattle.rate.specs.declared.Rated.{Rated}
 use Rattle.rate.specs.Accepted.{ScoresFit}
+use Rattle.rate.specs.Earlier.{Windows}
 
 -- ---- one pass finds the rolling rates
 
@@ -53,14 +53,6 @@ rolling-at earlier scores t h =
     let two : t + 2 ≡ suc (suc t) = omega arith in
     let one : t + 1 ≡ suc t = omega arith in
     rw (rolling-carried earlier scores, three, two, one) (fourth _ _ _ scores t (omega arith))
-
--- "0, which leaves the windows short": the rolling rates of an hour that begins with the scores x₁ x₂ x₃, where its windows hold only its own seconds
-pub record Windows (x₁ x₂ x₃ : ℕ) (scores : List ℕ) : Type 0 where
-  pub second-1 : getD (rolling [] scores) 0 0 ≡ x₁
-  pub second-2 : getD (rolling [] scores) 1 0 ≡ max x₁ x₂
-  pub second-3 : getD (rolling [] scores) 2 0 ≡ max x₁ (max x₂ x₃)
-  pub from-4 : (t : ℕ) → t + 3 < length scores
-      → getD (rolling [] scores) (t + 3) 0 ≡ max (getD scores (t + 3) 0) (max (getD scores (t + 2) 0) (max (getD scores (t + 1) 0) (getD scores t 0)))
 
 pub hour-windows : (x₁ x₂ x₃ : ℕ) (later : List ℕ) → Windows x₁ x₂ x₃ (x₁ ∷ x₂ ∷ x₃ ∷ later)
 hour-windows x₁ x₂ x₃ later =
@@ -149,15 +141,11 @@ secondOf earlier = getD (reverse earlier) 1 0
 abbrev pub thirdOf : List ℕ → ℕ
 thirdOf earlier = getD (reverse earlier) 2 0
 
-pub of-three : (earlier scores : List ℕ) → NoneOrThree earlier → length earlier ≡ earlierScores
+-- read from the run as it stands, oldest first
+pub read-back : (earlier scores : List ℕ) → NoneOrThree earlier
     → rateAfter (getD earlier 2 0) (getD earlier 1 0) (getD earlier 0 0) scores ≡ rateAfter (lastOf earlier) (secondOf earlier) (thirdOf earlier) scores
-of-three _ scores no-score e = absurd (omega arith)
-of-three _ scores (three-scores a b c) e = refl
-
-pub of-none : (earlier scores : List ℕ) → NoneOrThree earlier → (length earlier ≡ earlierScores → ⊥)
-    → rateAfter 0 0 0 scores ≡ rateAfter (lastOf earlier) (secondOf earlier) (thirdOf earlier) scores
-of-none _ scores no-score n = refl
-of-none _ scores (three-scores a b c) n = absurd (n refl)
+read-back _ scores no-score = refl
+read-back _ scores (three-scores a b c) = refl
 
 -- as a pass begins, so it may begin at 100
 begins : (earlier scores : List ℕ) → NoneOrThree earlier → areScores earlier ≡ true → 0 < length scores → areScores scores ≡ true
@@ -170,7 +158,7 @@ begins _ scores (three-scores a b c) before l small =
 
 module _ (earlier scores : List ℕ) where
   abbrev tests : List (Bool × ℕ)
-  tests = (eqb (length scores) secondsOfHour && earlierFit (length earlier), wrongLength) ∷ (areScores earlier && areScores scores, badReading) ∷ []
+  tests = (rateLengths (length earlier) (length scores), wrongLength) ∷ (areScores earlier && areScores scores, badReading) ∷ []
 
   pub scores-fit : scoresRefusal earlier scores ≡ 0 → ScoresFit earlier scores
   unfolding scoresRefusal
@@ -178,25 +166,21 @@ module _ (earlier scores : List ℕ) where
       let p = all-passed tests refl e in
       let l = and-both (eqb (length scores) secondsOfHour) (earlierFit (length earlier)) (p .0) in
       let b = and-both (areScores earlier) (areScores scores) (p .1 .0) in
-      record { long = eqb-true (length scores) secondsOfHour (l .0); counted = l .1; before = b .0; small = b .1 }
+      record { long = eqb-true (length scores) secondsOfHour (l .0); of-earlier = l .1; before = b .0; small = b .1 }
 
   pub fit-scores : ScoresFit earlier scores → scoresRefusal earlier scores ≡ 0
   unfolding scoresRefusal
-  fit-scores f = passed-all tests (both (eq-eqb (length scores) secondsOfHour (f .long)) (f .counted), (both (f .before) (f .small), tt))
+  fit-scores f = passed-all tests (both (eq-eqb (length scores) secondsOfHour (f .long)) (f .of-earlier), (both (f .before) (f .small), tt))
 
   -- the smallest rolling rate, as one pass finds it
   pub rate-carried : ScoresFit earlier scores → smallestFrom mostScore (carried (lastOf earlier) (secondOf earlier) (thirdOf earlier) scores) ≡ smallest (rolling earlier scores)
   rate-carried f =
       let l = f .long in
-      rw (rolling-carried earlier scores) (begins earlier scores (none-or-three earlier (f .counted)) (f .before) (omega arith) (f .small))
+      rw (rolling-carried earlier scores) (begins earlier scores (none-or-three earlier (f .of-earlier)) (f .before) (omega arith) (f .small))
 
   pub rate-granted : ScoresFit earlier scores → hourlyRate earlier scores ≡ record { refusal = 0; rate = smallest (rolling earlier scores) }
   unfolding hourlyRate
   rate-granted f = rw (eq-eqb _ 0 (fit-scores f))
-
-  pub rate-refused : (scoresRefusal earlier scores ≡ 0 → ⊥) → hourlyRate earlier scores ≡ noRate (scoresRefusal earlier scores)
-  unfolding hourlyRate
-  rate-refused n = kept-old _ _ n
 
   pub rate-refusal : hourlyRate earlier scores .refusal ≡ scoresRefusal earlier scores
   unfolding hourlyRate
@@ -217,22 +201,19 @@ module _ (earlier scores : List ℕ) where
 
   -- what is refused before the pass
   abbrev before : List (Bool × ℕ)
-  before = (eqb (length scores) secondsOfHour && earlierFit (length earlier), wrongLength) ∷ (areScores earlier, badReading) ∷ []
+  before = (rateLengths (length earlier) (length scores), wrongLength) ∷ (areScores earlier, badReading) ∷ []
 
   pub before-refused : (earlierRefusal earlier (length scores) ≡ 0 → ⊥) → noRate (earlierRefusal earlier (length scores)) ≡ hourlyRate earlier scores
   unfolding hourlyRate scoresRefusal earlierRefusal
   before-refused n =
-      let lengths = eqb (length scores) secondsOfHour && earlierFit (length earlier) in
+      let lengths = rateLengths (length earlier) (length scores) in
       by-test lengths
       (λ (t : lengths ≡ true). by-test (areScores earlier) (λ (a : areScores earlier ≡ true). absurd (n (rw (t, a)))) (λ (a : areScores earlier ≡ false). rw (t, a)))
       (λ (t : lengths ≡ false). rw t)
 
-  pub before-fine : earlierRefusal earlier (length scores) ≡ 0 → (length scores ≡ secondsOfHour) × (NoneOrThree earlier) × (areScores earlier ≡ true)
+  pub before-fine : earlierRefusal earlier (length scores) ≡ 0 → NoneOrThree earlier
   unfolding earlierRefusal
-  before-fine e =
-      let p = all-passed before refl e in
-      let l = and-both (eqb (length scores) secondsOfHour) (earlierFit (length earlier)) (p .0) in
-      (eqb-true (length scores) secondsOfHour (l .0), none-or-three earlier (l .1), p .1 .0)
+  before-fine e = none-or-three earlier (and-both (eqb (length scores) secondsOfHour) (earlierFit (length earlier)) (all-passed before refl e .0) .1)
 
   -- and what the pass answers where nothing is, for scores that fit or not
   pub rate-after-is : earlierRefusal earlier (length scores) ≡ 0 → rateAfter (lastOf earlier) (secondOf earlier) (thirdOf earlier) scores ≡ hourlyRate earlier scores
@@ -242,5 +223,5 @@ module _ (earlier scores : List ℕ) where
       let l = and-both (eqb (length scores) secondsOfHour) (earlierFit (length earlier)) (p .0) in
       by-test (areScores scores)
       (λ (t : areScores scores ≡ true).
-      rw (t, p .0, p .1 .0, rate-carried (record { long = eqb-true (length scores) secondsOfHour (l .0); counted = l .1; before = p .1 .0; small = t })))
+      rw (t, p .0, p .1 .0, rate-carried (record { long = eqb-true (length scores) secondsOfHour (l .0); of-earlier = l .1; before = p .1 .0; small = t })))
       (λ (t : areScores scores ≡ false). rw (t, p .0, p .1 .0))

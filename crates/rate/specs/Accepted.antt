@@ -9,6 +9,6 @@ use Rattle.rate.specs.Rolling.{earlierFit, areScores}
 
 pub record ScoresFit (earlier scores : List ℕ) : Type 0 where
   pub long : length scores ≡ secondsOfHour
-  pub counted : earlierFit (length earlier) ≡ true
+  pub of-earlier : earlierFit (length earlier) ≡ true
   pub before : areScores earlier ≡ true
   pub small : areScores scores ≡ true

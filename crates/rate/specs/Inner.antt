@@ -1,13 +1,11 @@
 -- What only mirrors the code: the hourly rate in one pass, which carries the last three scores; and what is refused before it.
 use Prim.Native.Nat.{ℕ, max}
-use mathlib.Core.Bool.{_&&_}
 use mathlib.Core.List.{List, [], _∷_}
-use lib.Dec.{eqb}
 use lib.ListN.{length}
 use Rattle.whole.specs.Choice.{pick, inOrder}
 use Rattle.units.specs.Refusals.{wrongLength, badReading}
-use Rattle.units.specs.Limits.{mostScore, secondsOfHour}
-use Rattle.rate.specs.Rolling.{smallestFrom, earlierFit, areScores, noRate}
+use Rattle.units.specs.Limits.{mostScore}
+use Rattle.rate.specs.Rolling.{smallestFrom, rateLengths, areScores, noRate}
 use Rattle.rate.specs.declared.Rated.{Rated}
 
 -- the rolling rates as one pass finds them, from the last three scores alone, newest first, a missing one as 0
@@ -24,4 +22,4 @@ rateAfter last second third scores =
 -- all but the test of the hour's own scores, of which there are so many: 1, 4
 unfoldable pub earlierRefusal : List ℕ → ℕ → ℕ
 earlierRefusal earlier seconds =
-    inOrder ((eqb seconds secondsOfHour && earlierFit (length earlier), wrongLength) ∷ (areScores earlier, badReading) ∷ [])
+    inOrder ((rateLengths (length earlier) seconds, wrongLength) ∷ (areScores earlier, badReading) ∷ [])

@@ -1,6 +1,7 @@
 // An hour's rate by its scores, and by the last three of the hour before.
 ghost use mathlib.Core.Path.{_≡_};
 ghost use Prim.Native.Nat.{min, max};
+ghost use lib.ListN.{getD};
 ghost use Rattle.rate.specs.Rolling.{earlierFit, areScores, hourlyRate, noRate};
 ghost use Rattle.rate.specs.Inner.{rateAfter, earlierRefusal};
 use units::limits;
@@ -21,13 +22,12 @@ pub fn hourly_rate(earlier: &[u8], scores: &[u8]) -> Rated
     if number != 0 {
         return no_rate(number);
     }
-    if earlier.len() == limits::EARLIER {
-        let third = earlier[0];
-        let second = earlier[1];
-        let last = earlier[2];
-        return rate_after(last, second, third, scores);
-    }
-    rate_after(0, 0, 0, scores)
+    rate_after(
+        earlier_at(earlier, 2),
+        earlier_at(earlier, 1),
+        earlier_at(earlier, 0),
+        scores,
+    )
 }
 
 // Whether an hour takes so many earlier scores: none, or three.
@@ -58,6 +58,16 @@ fn earlier_refusal(earlier: &[u8], seconds: usize) -> u8
     let scores = whole::unless(are_scores(earlier), refusals::BAD_READING, 0);
     let lengths = (seconds == limits::SECONDS) & earlier_fits(earlier.len());
     whole::unless(lengths, refusals::WRONG_LENGTH, scores)
+}
+
+// The earlier score at a place, and 0 where there is none.
+fn earlier_at(earlier: &[u8], place: usize) -> u8
+    ensures { λ r. ⌜ r ≡ getD (now (earlier .entry)) place 0 ⌝ }
+{
+    if place < earlier.len() {
+        return earlier[place];
+    }
+    0
 }
 
 fn no_rate(number: u8) -> Rated

@@ -2,7 +2,7 @@
 -- Assumes nothing.
 use Prim.Native.Nat.{ℕ, _≤_, _<_, _%_}
 use mathlib.Core.Path.{_≡_, refl, sym, _∙_}
-use mathlib.Core.Bool.{Bool, true, false, _&&_, and-false}
+use mathlib.Core.Bool.{Bool, true, false, and-false}
 use mathlib.Core.List.{List, [], _∷_}
 use native.Mathlib.Omega.{arith}
 use lib.Dec.{eqb}
@@ -13,7 +13,7 @@ use Rattle.whole.specs.Choice.{inOrder}
 use Rattle.whole.proofs.Choice.{by-test}
 use Rattle.units.specs.Limits.{earlierScores, secondsOfHour}
 use Rattle.units.specs.Refusals.{wrongLength, badBands}
-use Rattle.rate.specs.Rolling.{earlierFit, scoresRefusal, noRate, hourlyRate}
+use Rattle.rate.specs.Rolling.{rateLengths, scoresRefusal, noRate, hourlyRate}
 use Rattle.rate.proofs.Rates.{more-unfit}
 use Rattle.bands.specs.Bands.{bandsFit, factorRefusal, withFactor, factorAnswer}
 use Rattle.bands.proofs.Laws.{bands-fit}
@@ -40,7 +40,7 @@ unfolding factorIn
 by-bands n = by-test (arePairs n) (λ (t : arePairs n ≡ true). rw t (by-columns _ _)) (λ (t : arePairs n ≡ false). rw t)
 
 -- scores of another number are refused, and so are more than three earlier ones
-lengths-refused : (earlier scores : List ℕ) → (eqb (length scores) secondsOfHour && earlierFit (length earlier)) ≡ false → hourlyRate earlier scores ≡ noRate wrongLength
+lengths-refused : (earlier scores : List ℕ) → rateLengths (length earlier) (length scores) ≡ false → hourlyRate earlier scores ≡ noRate wrongLength
 unfolding hourlyRate scoresRefusal
 lengths-refused earlier scores t = rw t
 

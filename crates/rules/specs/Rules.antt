@@ -35,7 +35,7 @@ unfoldable pub scoreReply : List ℤ → Reply
 scoreReply n =
     let a = secondScore (kilowatts (number n 0)) (kilowatts (number n 1)) (kilowatts (number n 2)) (millihertz (number n 3)) in reply (a .refusal) (pos (a .score) ∷ [])
 
--- E, then E earlier scores, then 3,600 scores: refusal, rate (document 02, #102). An E that counts nothing is refused with 1
+-- E, then E earlier scores, then 3,600 scores: refusal, rate (document 02, #102). An E outside 0 to 100 is refused with 1
 abbrev pub rateAsked : Bool → List ℤ → List ℤ → Rated
 rateAsked counted earlier t = pick counted (hourlyRate (scoresIn earlier) (scoresIn t)) (noRate wrongLength)
 

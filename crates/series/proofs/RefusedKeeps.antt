@@ -30,11 +30,11 @@ Keeps r = (run : List ℤ) → (r .refusal ≡ 0 → ⊥) → (ranOf r ≡ bare 
 by-number : (k : ℕ) (fields : List ℤ) → Keeps (reply k (kept k fields []))
 by-number k fields run f = let d = none-ran k k fields refl run f in (sym (d .0), sym (d .1))
 
-keeps : (asks : Series) (given : HourNumbers) → Keeps (seriesReply asks given)
+keeps : (asks : Series) (n : List ℤ) (given : HourNumbers) → Keeps (seriesReply asks n given)
 unfolding rampReply scoresReply
-keeps Ramp given = by-number _ _
-keeps DregScores given = by-number _ _
-keeps EdregScores given = by-number _ _
+keeps Ramp n given = by-number _ _
+keeps DregScores n given = by-number _ _
+keeps EdregScores n given = by-number _ _
 
 -- the run, as it was lent and as it is left
 abbrev lent : (κs : Lfts 4) → Dens κs answer-kinds.ps → List ℤ
@@ -47,5 +47,5 @@ answer-refused-keeps : RefusedKeeps 4 answer-kinds.ps answer-kinds.r (λ κs x. 
 unfolding ranOf
 answer-refused-keeps κs a x s p f =
     let k = ap (λ (y : Ran). y .refusal) (p .0) in
-    let d = keeps (a .0) _ (lent κs a) (λ z. f (k ∙ z)) in
+    let d = keeps (a .0) (a .1 .0) _ (lent κs a) (λ z. f (k ∙ z)) in
     (p .0 ∙ d .0 ∙ sym (ap bare k), p .1 ∙ d .1)

@@ -18,8 +18,8 @@ rampReply n =
     let k = rampRefusal (kilowatts (number n 0)) (kilowatts (number n 1)) secondsOfQuarter in
     reply k (kept k (rampOf (number n 0) (number n 1)) [])
 
--- the answer to a run's question: a ramp's by its single numbers, which stand where an hour's terms do; an hour's by its numbers
-abbrev pub seriesReply : Series → HourNumbers → Reply
-seriesReply Ramp given = rampReply (given .terms)
-seriesReply DregScores given = scoresReply Dreg given
-seriesReply EdregScores given = scoresReply Edreg given
+-- the answer to a run's question, by its single numbers, and by those of its hour
+abbrev pub seriesReply : Series → List ℤ → HourNumbers → Reply
+seriesReply Ramp n given = rampReply n
+seriesReply DregScores n given = scoresReply Dreg given
+seriesReply EdregScores n given = scoresReply Edreg given

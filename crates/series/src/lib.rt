@@ -28,8 +28,8 @@ pub fn answer(
     readings: &[i64],
     run: &mut [i64; limits::SECONDS],
 ) -> Ran
-    ensures answers { λ r. ⌜ r ≡ ranOf (seriesReply asks (hourNumbers head (now (bands .entry)) counted (now (earlier .entry)) (now (readings .entry)))) ⌝ }
-    ensures leaves { λ r. ⌜ now (run .exit) ≡ ranLeft (seriesReply asks (hourNumbers head (now (bands .entry)) counted (now (earlier .entry)) (now (readings .entry)))) (now (run .entry)) ⌝ }
+    ensures answers { λ r. ⌜ r ≡ ranOf (seriesReply asks head (hourNumbers head (now (bands .entry)) counted (now (earlier .entry)) (now (readings .entry)))) ⌝ }
+    ensures leaves { λ r. ⌜ now (run .exit) ≡ ranLeft (seriesReply asks head (hourNumbers head (now (bands .entry)) counted (now (earlier .entry)) (now (readings .entry)))) (now (run .entry)) ⌝ }
 {
     match asks {
         Series::Ramp => ramp(head, run),

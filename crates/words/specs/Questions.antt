@@ -23,14 +23,14 @@ shape head lists tail group = record { head = head; lists = lists; tail = tail; 
 abbrev pub noLists : List ℕ
 noLists = 0 ∷ 0 ∷ 0 ∷ 0 ∷ []
 
--- single numbers alone; with one for each second of an hour after them; with groups after them; with a list of pairs, a list of earlier scores and two for each second after it
+-- single numbers alone; with one for each second of an hour after them; with a list of earlier scores before those (document 02, #102); with groups after them; with a list of pairs, then one of
+-- earlier scores (document 02, #102), and two for each second after these
 abbrev pub singles : ℕ → Shape
 singles head = shape head noLists 0 0
 
 abbrev pub secondsShape : ℕ → Shape
 secondsShape head = shape head noLists secondsOfHour 0
 
--- with a list of earlier scores and one for each second after it (document 02, #102)
 abbrev pub scoresShape : ℕ → Shape
 scoresShape head = shape head (1 ∷ 0 ∷ 0 ∷ 0 ∷ []) secondsOfHour 0
 

@@ -60,7 +60,7 @@ put-line-requires c κs =
     let x = c .before .before in
     let s = x .before .before .before .before .before .before .before .before .before in
     let a = s .args in
-    (s .pre, rw (fields x) (series-short (a .asks) (givenIn (headOf (a .numbers .now)) (a .numbers .now) (a .places))))
+    (s .pre, rw (fields x) (series-short (a .asks) (headOf (a .numbers .now)) (givenIn (headOf (a .numbers .now)) (a .numbers .now) (a .places))))
 
 same-length : tie.Need-same-length
 same-length c = search needs

@@ -1,10 +1,9 @@
 -- `rate::hourly_rate` meets its contract: by what is refused before the pass, and what the pass answers from the earlier scores on. Assumes nothing.
-use mathlib.Core.Path.{_≡_, sym, ap, _∙_}
-use lib.ListN.{length}
+use mathlib.Core.Path.{sym, ap, _∙_}
 use borrow.Author.Needs.{needs}
 use Rattle.rate.specs.Rolling.{noRate}
-use Rattle.rate.specs.Inner.{earlierRefusal}
-use Rattle.rate.proofs.Rates.{of-three, of-none, before-refused, before-fine, rate-after-is}
+use Rattle.rate.specs.Inner.{rateAfter}
+use Rattle.rate.proofs.Rates.{read-back, before-refused, before-fine, rate-after-is}
 use Rattle.rate.proofs.hourly_rate.Statement.{statement}
 use Rattle.rate.proofs.hourly_rate.Tie as tie
 
@@ -20,40 +19,32 @@ returns c =
     let k = t .before .earlier-refusal .ensures in
     c .no-rate .ensures ∙ ap noRate k ∙ before-refused _ _ (λ z. t .if1 .taken (k ∙ z))
 
-shared-slice-read-third : tie.Need-shared-slice-read-third
-shared-slice-read-third c = search needs
+earlier-at-requires : tie.Need-earlier-at-requires
+earlier-at-requires c κs = search needs
 
-shared-slice-read-second : tie.Need-shared-slice-read-second
-shared-slice-read-second c = search needs
+earlier-at-requires-2 : tie.Need-earlier-at-requires-2
+earlier-at-requires-2 c κs = search needs
 
-shared-slice-read-last : tie.Need-shared-slice-read-last
-shared-slice-read-last c = search needs
+earlier-at-requires-3 : tie.Need-earlier-at-requires-3
+earlier-at-requires-3 c κs = search needs
 
 rate-after-requires : tie.Need-rate-after-requires
 rate-after-requires c κs = search needs
 
--- nothing is refused before the pass
-fine : (c : tie.Else1) → let a = c .before .before .before .before .args in earlierRefusal (a .earlier .now) (length (a .scores .now)) ≡ 0
-fine c = sym (c .before .earlier-refusal .ensures) ∙ c .if1 .left
-
 returns-2 : tie.Need-returns-2
 returns-2 c =
-    let t = c .before .before .before .before in
-    let e = t .before in
+    let z = c .before in
+    let y = z .before in
+    let x = y .before in
+    let e = x .before in
     let a = e .before .before .before .before .args in
-    let z = fine e in
-    c .rate-after .ensures ∙ of-three (a .earlier .now) (a .scores .now) (before-fine (a .earlier .now) (a .scores .now) z .1) (t .if2 .taken) ∙ rate-after-is (a .earlier .now) (a .scores .now) z
-
-rate-after-requires-2 : tie.Need-rate-after-requires-2
-rate-after-requires-2 c κs = search needs
-
-returns-3 : tie.Need-returns-3
-returns-3 c =
-    let l = c .before in
-    let e = l .before in
-    let a = e .before .before .before .before .args in
-    let z = fine e in
-    c .rate-after2 .ensures ∙ of-none (a .earlier .now) (a .scores .now) (before-fine (a .earlier .now) (a .scores .now) z .1) (l .if2 .left) ∙ rate-after-is (a .earlier .now) (a .scores .now) z
+    let earlier = a .earlier .now in
+    let scores = a .scores .now in
+    let none = sym (e .before .earlier-refusal .ensures) ∙ e .if1 .left in
+    c .rate-after .ensures
+    ∙ (λ i. rateAfter (x .earlier-at .ensures i) (y .earlier-at2 .ensures i) (z .earlier-at3 .ensures i) scores)
+    ∙ read-back earlier scores (before-fine earlier scores none)
+    ∙ rate-after-is earlier scores none
 
 pub hourly-rate-spec : {M : Type 1} → statement M
 hourly-rate-spec =
@@ -62,10 +53,8 @@ hourly-rate-spec =
     earlier-refusal-requires
     no-rate-requires
     returns
-    shared-slice-read-third
-    shared-slice-read-second
-    shared-slice-read-last
+    earlier-at-requires
+    earlier-at-requires-2
+    earlier-at-requires-3
     rate-after-requires
-    returns-2
-    rate-after-requires-2
-    returns-3)
+    returns-2)
