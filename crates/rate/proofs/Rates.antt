@@ -13,7 +13,7 @@ use Rattle.whole.proofs.Choice.{clash, both, and-both, by-test, all-passed, pas
 use Rattle.whole.proofs.Folds.{all-at, all-of}
 use Rattle.units.specs.Refusals.{wrongLength, badReading}
 use Rattle.units.specs.Limits.{mostScore, earlierScores, secondsOfHour}
-use Rattle.rate.specs.Rolling.{windows, largest, smallest, smallestFrom, rolling, earlierFit, rateLengths, isScoreAt, areScores, scoresRefusal, noRate, hourlyRate}
+use Rattle.rate.specs.Rolling.{windows, largest, smallest, smallestFrom, rolling, earlierFit, rateLengthsFit, isScoreAt, areScores, scoresRefusal, noRate, hourlyRate}
 use Rattle.rate.specs.Inner.{carried, rateAfter, earlierRefusal}
 use Rattle.rate.specs.declared.Rated.{Rated}
 use Rattle.rate.specs.Accepted.{ScoresFit}
@@ -158,7 +158,7 @@ begins _ scores (three-scores a b c) before l small =
 
 module _ (earlier scores : List ℕ) where
   abbrev tests : List (Bool × ℕ)
-  tests = (rateLengths (length earlier) (length scores), wrongLength) ∷ (areScores earlier && areScores scores, badReading) ∷ []
+  tests = (rateLengthsFit (length earlier) (length scores), wrongLength) ∷ (areScores earlier && areScores scores, badReading) ∷ []
 
   pub scores-fit : scoresRefusal earlier scores ≡ 0 → ScoresFit earlier scores
   unfolding scoresRefusal
@@ -201,12 +201,12 @@ module _ (earlier scores : List ℕ) where
 
   -- what is refused before the pass
   abbrev before : List (Bool × ℕ)
-  before = (rateLengths (length earlier) (length scores), wrongLength) ∷ (areScores earlier, badReading) ∷ []
+  before = (rateLengthsFit (length earlier) (length scores), wrongLength) ∷ (areScores earlier, badReading) ∷ []
 
   pub before-refused : (earlierRefusal earlier (length scores) ≡ 0 → ⊥) → noRate (earlierRefusal earlier (length scores)) ≡ hourlyRate earlier scores
   unfolding hourlyRate scoresRefusal earlierRefusal
   before-refused n =
-      let lengths = rateLengths (length earlier) (length scores) in
+      let lengths = rateLengthsFit (length earlier) (length scores) in
       by-test lengths
       (λ (t : lengths ≡ true). by-test (areScores earlier) (λ (a : areScores earlier ≡ true). absurd (n (rw (t, a)))) (λ (a : areScores earlier ≡ false). rw (t, a)))
       (λ (t : lengths ≡ false). rw t)

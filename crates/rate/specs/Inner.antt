@@ -5,7 +5,7 @@ use lib.ListN.{length}
 use Rattle.whole.specs.Choice.{pick, inOrder}
 use Rattle.units.specs.Refusals.{wrongLength, badReading}
 use Rattle.units.specs.Limits.{mostScore}
-use Rattle.rate.specs.Rolling.{smallestFrom, rateLengths, areScores, noRate}
+use Rattle.rate.specs.Rolling.{smallestFrom, rateLengthsFit, areScores, noRate}
 use Rattle.rate.specs.declared.Rated.{Rated}
 
 -- the rolling rates as one pass finds them, from the last three scores alone, newest first, a missing one as 0
@@ -22,4 +22,4 @@ rateAfter last second third scores =
 -- all but the test of the hour's own scores, of which there are so many: 1, 4
 unfoldable pub earlierRefusal : List ℕ → ℕ → ℕ
 earlierRefusal earlier seconds =
-    inOrder ((rateLengths (length earlier) seconds, wrongLength) ∷ (areScores earlier, badReading) ∷ [])
+    inOrder ((rateLengthsFit (length earlier) seconds, wrongLength) ∷ (areScores earlier, badReading) ∷ [])

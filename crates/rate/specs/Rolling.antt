@@ -38,8 +38,8 @@ abbrev pub earlierFit : ℕ → Bool
 earlierFit count = eqb count 0 || eqb count earlierScores
 
 -- 3,600 scores, after none or three
-abbrev pub rateLengths : ℕ → ℕ → Bool
-rateLengths earlier seconds = eqb seconds secondsOfHour && earlierFit earlier
+abbrev pub rateLengthsFit : ℕ → ℕ → Bool
+rateLengthsFit earlier seconds = eqb seconds secondsOfHour && earlierFit earlier
 
 -- a score handed in is one
 abbrev pub isScoreAt : List ℕ → ℕ → Bool
@@ -51,7 +51,7 @@ areScores scores = allTo (length scores) (isScoreAt scores)
 -- 1, 4. "any other number of scores is 1, a score above 100 is 4, both in their old places" (document 02, #102)
 unfoldable pub scoresRefusal : List ℕ → List ℕ → ℕ
 scoresRefusal earlier scores =
-    inOrder ((rateLengths (length earlier) (length scores), wrongLength) ∷ (areScores earlier && areScores scores, badReading) ∷ [])
+    inOrder ((rateLengthsFit (length earlier) (length scores), wrongLength) ∷ (areScores earlier && areScores scores, badReading) ∷ [])
 
 abbrev pub noRate : ℕ → Rated
 noRate k = record { refusal = k; rate = 0 }

@@ -13,7 +13,7 @@ use Rattle.whole.specs.Choice.{inOrder}
 use Rattle.whole.proofs.Choice.{by-test}
 use Rattle.units.specs.Limits.{earlierScores, secondsOfHour}
 use Rattle.units.specs.Refusals.{wrongLength, badBands}
-use Rattle.rate.specs.Rolling.{rateLengths, scoresRefusal, noRate, hourlyRate}
+use Rattle.rate.specs.Rolling.{rateLengthsFit, scoresRefusal, noRate, hourlyRate}
 use Rattle.rate.proofs.Rates.{more-unfit}
 use Rattle.bands.specs.Bands.{bandsFit, factorRefusal, withFactor, factorAnswer}
 use Rattle.bands.proofs.Laws.{bands-fit}
@@ -40,7 +40,7 @@ unfolding factorIn
 by-bands n = by-test (arePairs n) (λ (t : arePairs n ≡ true). rw t (by-columns _ _)) (λ (t : arePairs n ≡ false). rw t)
 
 -- scores of another number are refused, and so are more than three earlier ones
-lengths-refused : (earlier scores : List ℕ) → rateLengths (length earlier) (length scores) ≡ false → hourlyRate earlier scores ≡ noRate wrongLength
+lengths-refused : (earlier scores : List ℕ) → rateLengthsFit (length earlier) (length scores) ≡ false → hourlyRate earlier scores ≡ noRate wrongLength
 unfolding hourlyRate scoresRefusal
 lengths-refused earlier scores t = rw t
 
