@@ -49,7 +49,7 @@ const fn runs(name: &'static str, runs: usize, asks: Asks) -> Part {
     Part { name, asks, runs, grows: true }
 }
 
-const PARTS: [Part; 31] = [
+const PARTS: [Part; 36] = [
     once("figures", Asks::Desk(figures::questions)),
     once("kilowatts", Asks::Desk(questions::kilowatts)),
     once("curve", Asks::Desk(questions::curve)),
@@ -62,6 +62,11 @@ const PARTS: [Part; 31] = [
     runs("loss", 1, Asks::Desk(questions::loss)),
     runs("dreg", 3, Asks::Desk(questions::dreg)),
     runs("edreg", 3, Asks::Desk(questions::edreg)),
+    runs("sreg", 3, Asks::Desk(questions::sreg)),
+    runs("sreg events", 1, Asks::Desk(questions::sreg_events)),
+    runs("sreg handed on", 1, Asks::Desk(questions::sreg_handed_on)),
+    once("sreg states", Asks::Desk(questions::sreg_states)),
+    once("sreg limits", Asks::Desk(questions::sreg_limits)),
     runs("first windows", 1, Asks::Desk(questions::first_windows)),
     once("dreg limits", Asks::Desk(questions::dreg_limits)),
     once("edreg limits", Asks::Desk(questions::edreg_limits)),

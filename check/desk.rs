@@ -2,7 +2,7 @@
 
 use crate::faults::{wrong, Fault};
 use crate::month::{write, Frame};
-use crate::rules::{self, Answer, Band, Earlier, Hour, Settled, Shift};
+use crate::rules::{self, Answer, Band, Beside, Earlier, Hour, Settled, Shift, State};
 
 const MOST_NUMBERS: usize = 8192;
 const MOST_LETTERS: usize = 12;
@@ -85,12 +85,35 @@ enum Needs {
     Pairs(usize),
     /// E, E earlier scores and the hour's own.
     Scores,
-    /// So many, then N, N pairs of bands, E, E earlier scores and the hour's readings.
-    HourAfter(usize),
+    /// So many, then an hour of the product.
+    HourAfter(usize, Product),
 }
 
-const DREG_HEAD: usize = 3;
-const EDREG_HEAD: usize = 10;
+/// Whose hours are asked for: a head, N, N pairs of bands, E, E earlier scores, for sReg a state, and the readings.
+#[derive(Clone, Copy, PartialEq)]
+pub enum Product {
+    Dreg,
+    Edreg,
+    Sreg,
+}
+
+impl Product {
+    /// How many numbers stand before N.
+    fn head(self) -> usize {
+        match self {
+            Product::Dreg | Product::Sreg => 3,
+            Product::Edreg => 10,
+        }
+    }
+
+    /// How many numbers a state has: KIND POWER COUNT.
+    fn state(self) -> usize {
+        match self {
+            Product::Sreg => 3,
+            Product::Dreg | Product::Edreg => 0,
+        }
+    }
+}
 
 fn needs(word: &[u8]) -> Option<Needs> {
     let needs = match word {
@@ -102,10 +125,12 @@ fn needs(word: &[u8]) -> Option<Needs> {
         b"energy" => Needs::Just(6 + SECONDS),
         b"bands" => Needs::Pairs(0),
         b"factor" => Needs::Pairs(1),
-        b"dreg" | b"dreg_scores" => Needs::HourAfter(DREG_HEAD),
-        b"edreg" | b"edreg_scores" => Needs::HourAfter(EDREG_HEAD),
-        b"dreg_frame" => Needs::HourAfter(2 + DREG_HEAD),
-        b"edreg_frame" => Needs::HourAfter(2 + EDREG_HEAD),
+        b"dreg" | b"dreg_scores" => Needs::HourAfter(0, Product::Dreg),
+        b"edreg" | b"edreg_scores" => Needs::HourAfter(0, Product::Edreg),
+        b"sreg" | b"sreg_scores" => Needs::HourAfter(0, Product::Sreg),
+        b"dreg_frame" => Needs::HourAfter(2, Product::Dreg),
+        b"edreg_frame" => Needs::HourAfter(2, Product::Edreg),
+        b"sreg_frame" => Needs::HourAfter(2, Product::Sreg),
         _ => return None,
     };
     Some(needs)
@@ -131,7 +156,9 @@ fn needed(needs: &Needs, numbers: &[i64]) -> usize {
         Needs::Just(count) => count,
         Needs::Pairs(head) => head + numbers.len().saturating_sub(head).next_multiple_of(2),
         Needs::Scores => list_end(numbers, 0, 1) + SECONDS,
-        Needs::HourAfter(head) => list_end(numbers, list_end(numbers, head, 2), 1) + 2 * SECONDS,
+        Needs::HourAfter(place, product) => {
+            list_end(numbers, list_end(numbers, place + product.head(), 2), 1) + product.state() + 2 * SECONDS
+        }
     }
 }
 
@@ -219,16 +246,44 @@ fn rate(numbers: &[i64]) -> Answer<i64> {
     rules::rate(&earlier, &bytes(scores))
 }
 
-/// The numbers of `dreg` (3 before N) or `edreg` (10 before N).
-fn hour(numbers: &[i64], head: usize) -> Hour {
+/// KIND POWER COUNT: "another KIND" is no state, nor is one with "a number that a kind does not use and is not 0".
+fn state(told: &[i64]) -> Option<State> {
+    let unused = |number: i64| number == 0 || wrong(Fault::UnusedTaken);
+    match *told {
+        [0, power, count] if unused(power) && unused(count) => Some(State::Outside),
+        [1, start, scored] => Some(State::Responding { start, scored }),
+        [2, start, count] if unused(count) => Some(State::Holding { start }),
+        [3, power, left] if unused(power) => Some(State::Recovering { left }),
+        _ => None,
+    }
+}
+
+/// A state's three numbers.
+pub fn state_numbers(state: State) -> [i64; 3] {
+    match state {
+        State::Outside => [0, 0, 0],
+        State::Responding { start, scored } => [1, start, scored],
+        State::Holding { start } => [2, start, 0],
+        State::Recovering { left } => [3, 0, left],
+    }
+}
+
+/// An hour's numbers, of a question that asks for one or, with a place before them, for its frame.
+fn hour(numbers: &[i64], product: Product) -> Hour {
+    let head = product.head();
     let (told, rest) = numbers.split_at(list_end(numbers, head, 2));
-    let (earlier, readings) = earlier(rest);
+    let (earlier, rest) = earlier(rest);
+    let (begun, readings) = rest.split_at(product.state());
     let every_second = |from: usize| readings.iter().skip(from).step_by(2).copied().collect();
     Hour {
         capacity: numbers[0],
         clearing: numbers[1],
         performance: numbers[2],
-        shift: (head == EDREG_HEAD).then(|| shift(&numbers[3..5], numbers[5], &numbers[6..10])),
+        beside: match product {
+            Product::Dreg => Beside::Nothing,
+            Product::Edreg => Beside::Shift(shift(&numbers[3..5], numbers[5], &numbers[6..10])),
+            Product::Sreg => Beside::State(state(begun)),
+        },
         bands: pairs(&told[head + 1..]),
         earlier,
         powers: every_second(0),
@@ -238,6 +293,17 @@ fn hour(numbers: &[i64], head: usize) -> Hour {
 
 fn hour_fields(s: Settled) -> [i64; 7] {
     [s.rate, s.factor, s.capacity_fee, s.performance_fee, s.quality, s.energy, s.amount]
+}
+
+/// "What `dreg` prints and then the state's three numbers."
+fn sreg_fields(s: Settled) -> [i64; 10] {
+    let [kind, power, count] = state_numbers(s.state);
+    let [rate, factor, capacity_fee, performance_fee, quality, energy, amount] = hour_fields(s);
+    [rate, factor, capacity_fee, performance_fee, quality, energy, amount, kind, power, count]
+}
+
+fn scores(numbers: &[i64], product: Product) -> Answer<Vec<i64>> {
+    Ok(rules::settle(&hour(numbers, product))?.scores)
 }
 
 fn byte(x: i64, refusal: u8) -> Answer<u8> {
@@ -250,8 +316,8 @@ fn frame(kind: i64, day: i64, hour: i64, amount: i64) -> Answer<String> {
 }
 
 /// The frame that posts an hour's amount: "the hour's refusal first, then 6".
-fn hour_frame(numbers: &[i64], head: usize) -> Answer<String> {
-    let settled = rules::settle(&hour(&numbers[2..], head))?;
+fn hour_frame(numbers: &[i64], product: Product) -> Answer<String> {
+    let settled = rules::settle(&hour(&numbers[2..], product))?;
     frame(1, numbers[0], numbers[1], settled.amount)
 }
 
@@ -283,12 +349,15 @@ fn answer(word: &[u8], n: &[i64]) -> String {
         b"quality" => fields(rules::quality(n[0], n[1], n[2]).map(|dollars| [dollars])),
         b"energy" => fields(rules::energy(&shift(n, 0, &n[2..6]), &n[6..]).map(|dollars| [dollars])),
         b"loss" => fields(rules::loss(n[0], n[1], n[2], n[3]).map(|(basic, excess)| [basic, excess, basic + excess])),
-        b"dreg" => fields(rules::settle(&hour(n, DREG_HEAD)).map(hour_fields)),
-        b"edreg" => fields(rules::settle(&hour(n, EDREG_HEAD)).map(hour_fields)),
-        b"dreg_scores" => run(rules::settle(&hour(n, DREG_HEAD)).map(|settled| settled.scores)),
-        b"edreg_scores" => run(rules::settle(&hour(n, EDREG_HEAD)).map(|settled| settled.scores)),
-        b"dreg_frame" => digits(hour_frame(n, DREG_HEAD)),
-        b"edreg_frame" => digits(hour_frame(n, EDREG_HEAD)),
+        b"dreg" => fields(rules::settle(&hour(n, Product::Dreg)).map(hour_fields)),
+        b"edreg" => fields(rules::settle(&hour(n, Product::Edreg)).map(hour_fields)),
+        b"sreg" => fields(rules::settle(&hour(n, Product::Sreg)).map(sreg_fields)),
+        b"dreg_scores" => run(scores(n, Product::Dreg)),
+        b"edreg_scores" => run(scores(n, Product::Edreg)),
+        b"sreg_scores" => run(scores(n, Product::Sreg)),
+        b"dreg_frame" => digits(hour_frame(n, Product::Dreg)),
+        b"edreg_frame" => digits(hour_frame(n, Product::Edreg)),
+        b"sreg_frame" => digits(hour_frame(n, Product::Sreg)),
         _ => digits(frame(n[0], n[1], n[2], n[3])),
     }
 }

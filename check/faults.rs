@@ -31,10 +31,24 @@ pub enum Fault {
     EarlierBeforeCapacity,
     UncountedAsNone,
     ScoreBeforeCount,
+    ElevenAtFirst,
+    EndNotJudged,
+    StartAbove,
+    ReturnBelow,
+    EarlyReturnIgnored,
+    FallIgnored,
+    StartedAnew,
+    NineAfter,
+    PowerBeforeStart,
+    SecondBefore,
+    StateDropped,
+    TenScoredTaken,
+    UnusedTaken,
+    StateBeforeCapacity,
 }
 
 /// The name on the command line, the fault, and what it does.
-pub const FAULTS: [(&str, Fault, &str); 26] = [
+pub const FAULTS: [(&str, Fault, &str); 40] = [
     ("half-toward-zero", Fault::HalfTowardZero, "a half is rounded toward zero"),
     ("window-of-three", Fault::WindowOfThree, "a rolling rate looks at three seconds"),
     ("own-second", Fault::OwnSecond, "a power is judged by its own second's frequency"),
@@ -61,6 +75,20 @@ pub const FAULTS: [(&str, Fault, &str); 26] = [
     ("earlier-before-capacity", Fault::EarlierBeforeCapacity, "the 4 of the earlier scores comes before 2"),
     ("uncounted-as-none", Fault::UncountedAsNone, "an E outside 0 to 100 is taken for no earlier score"),
     ("score-before-count", Fault::ScoreBeforeCount, "in `rate` a score above 100 is told before a wrong number of earlier scores"),
+    ("eleven-at-first", Fault::ElevenAtFirst, "the first eleven seconds of an event score 100"),
+    ("end-not-judged", Fault::EndNotJudged, "the second that ends an event is not among the judged ones"),
+    ("start-above", Fault::StartAbove, "59,881 mHz starts an event"),
+    ("return-below", Fault::ReturnBelow, "59,979 mHz ends an event"),
+    ("early-return-ignored", Fault::EarlyReturnIgnored, "no event ends within its first ten seconds"),
+    ("fall-ignored", Fault::FallIgnored, "a fall in the ten seconds after an event starts none"),
+    ("started-anew", Fault::StartedAnew, "a second at or below 59,880 mHz within an event starts it anew"),
+    ("nine-after", Fault::NineAfter, "nine seconds after an event score 100"),
+    ("power-before-start", Fault::PowerBeforeStart, "an event's start power is that of the second before its start"),
+    ("second-before", Fault::SecondBefore, "an sReg second goes by the frequency of the second before it"),
+    ("state-dropped", Fault::StateDropped, "an sReg hour begins outside whatever state is handed in"),
+    ("ten-scored-taken", Fault::TenScoredTaken, "a responding state with all ten seconds scored is taken"),
+    ("unused-taken", Fault::UnusedTaken, "a number that a state's kind does not use may be other than 0"),
+    ("state-before-capacity", Fault::StateBeforeCapacity, "the 4 of a handed-in state comes before 2"),
 ];
 
 static CHOSEN: OnceLock<Fault> = OnceLock::new();

@@ -1,5 +1,6 @@
 //! What `desk` is asked: one function a part, each writing the text of one run.
 
+use crate::desk::{state_numbers, Product};
 use crate::draw::{edges, Draw};
 use crate::month::AMOUNT;
 use crate::rules::*;
@@ -8,7 +9,9 @@ const BYTE: Limits = Limits(0, 255);
 const DAY: Limits = Limits(1, 31);
 const HOUR: Limits = Limits(0, 23);
 const KIND: Limits = Limits(0, 6);
+const STATE_KIND: Limits = Limits(0, 3);
 const SECONDS: usize = 3600;
+const PRODUCTS: [Product; 3] = [Product::Dreg, Product::Edreg, Product::Sreg];
 
 // ---- writing a question
 
@@ -425,18 +428,20 @@ pub fn energy(draw: &mut Draw) -> String {
 
 // ---- hours
 
-/// An hour's numbers as `dreg` and `edreg` take them: the head, N with its pairs, E with its scores, the readings.
+/// An hour's numbers as its question takes them: the head, N with its pairs, E with its scores, for sReg a state, the
+/// readings.
 struct Asked {
     head: Vec<i64>,
     limits: Vec<Limits>,
     bands: Vec<i64>,
     earlier: Vec<i64>,
+    state: Vec<i64>,
     readings: Vec<i64>,
 }
 
 impl Asked {
     fn numbers(&self) -> Vec<i64> {
-        [&self.head[..], &self.bands, &self.earlier, &self.readings].concat()
+        [&self.head[..], &self.bands, &self.earlier, &self.state, &self.readings].concat()
     }
 }
 
@@ -505,9 +510,133 @@ fn readings(draw: &mut Draw, capacity: i64, planned: &[i64], depth: i64, stumble
     list
 }
 
-fn fit_hour(draw: &mut Draw, shifts: bool) -> Asked {
+// an sReg hour's events
+
+/// Mostly one of those beside a mark, else anything within the limits.
+fn beside(draw: &mut Draw, marks: [i64; 2], Limits(low, high): Limits) -> i64 {
+    if draw.one_in(3) {
+        draw.between(low, high)
+    } else {
+        draw.of(&marks)
+    }
+}
+
+/// A frequency that starts an event.
+fn low(draw: &mut Draw) -> i64 {
+    beside(draw, [59_879, 59_880], Limits(FREQUENCY.0, 59_880))
+}
+
+/// One that neither starts nor ends one.
+fn middle(draw: &mut Draw) -> i64 {
+    beside(draw, [59_881, 59_979], Limits(59_881, 59_979))
+}
+
+/// One that ends one.
+fn high(draw: &mut Draw) -> i64 {
+    beside(draw, [59_980, 59_981], Limits(59_980, FREQUENCY.1))
+}
+
+/// An event of so many seconds up to its return, the return, and so many seconds after it in which none starts.
+fn put_event(draw: &mut Draw, list: &mut Vec<i64>, length: usize, after: usize) {
+    list.push(low(draw));
+    for _ in 1..length {
+        list.push(if draw.one_in(2) { low(draw) } else { middle(draw) });
+    }
+    list.push(high(draw));
+    for _ in 0..after {
+        list.push(if draw.one_in(2) { middle(draw) } else { high(draw) });
+    }
+}
+
+/// How many seconds: mostly around the ten that score 100.
+fn span(draw: &mut Draw) -> usize {
+    let most = draw.of(&[12, 12, 12, 12, 12, 60, 900]);
+    draw.between(1, most) as usize
+}
+
+/// So many frequencies: one event after the other, or what wanders about the two marks; now and then anything.
+fn event_frequencies(draw: &mut Draw, count: usize) -> Vec<i64> {
+    let way = draw.below(6);
+    let (mut list, mut now) = (Vec::new(), 59_930);
+    let begun = draw.below(40);
+    while list.len() < begun + count {
+        now = (now + draw.between(-15, 15)).clamp(59_860, 60_000);
+        match way {
+            0 => list.push(draw.of(&[59_879, 59_880, 59_881, 59_979, 59_980, 59_981])),
+            1 => list.push(now),
+            2 => list.push(draw.fit(FREQUENCY)),
+            _ => {
+                let (length, after) = (span(draw), span(draw) - 1);
+                put_event(draw, &mut list, length, after);
+            }
+        }
+    }
+    list[begun..begun + count].to_vec()
+}
+
+/// Readings with these frequencies: what is judged is given in full but for dips; a start has about the capacity.
+fn event_readings(draw: &mut Draw, capacity: i64, state: State, frequencies: &[i64]) -> Vec<i64> {
+    let (mut powers, begun): (Vec<_>, Vec<_>) = lead_in(state).into_iter().unzip();
+    let seconds = judged(&[&begun[..], frequencies].concat()).split_off(begun.len());
+    let (depth, dips) = (draw.of(&[0, 3, 9, 30]), draw.of(&[2, 6, 40]));
+    for second in seconds {
+        let percent = if draw.one_in(dips) { draw.between(-10, 110) } else { draw.between(100 - depth, 102) };
+        let output = power_at(draw, percent, 0, capacity);
+        powers.push(match second {
+            Judged::Since(start) => (powers[start] - output).clamp(POWER.0, POWER.1),
+            Judged::Full if draw.one_in(4) => draw.fit(POWER),
+            _ => output,
+        });
+    }
+    paired(&powers.split_off(begun.len()), frequencies)
+}
+
+fn paired(powers: &[i64], frequencies: &[i64]) -> Vec<i64> {
+    powers.iter().zip(frequencies).flat_map(|(power, frequency)| [*power, *frequency]).collect()
+}
+
+fn fit_state(draw: &mut Draw) -> State {
+    let (start, scored, left) = (draw.fit(POWER), draw.fit(SCORED), draw.fit(LEFT));
+    let (responding, holding) = (State::Responding { start, scored }, State::Holding { start });
+    draw.of(&[State::Outside, State::Outside, responding, responding, holding, State::Recovering { left }])
+}
+
+/// Three numbers that are no state's.
+fn unfit_state(draw: &mut Draw) -> Vec<i64> {
+    let (power, scored, left) = (draw.fit(POWER), draw.fit(SCORED), draw.fit(LEFT));
+    let (past_kind, past_power) = (past(draw, STATE_KIND), past(draw, POWER));
+    let (past_scored, past_left) = (past(draw, SCORED), past(draw, LEFT));
+    let unused = draw.of(&[-1, 1, 10, 200_000, 1 << 32, i64::MIN, i64::MAX]);
+    let list = [
+        [past_kind, 0, 0],
+        [past_kind, power, scored],
+        [0, unused, 0],
+        [0, 0, unused],
+        [1, past_power, scored],
+        [1, power, past_scored],
+        [2, past_power, 0],
+        [2, power, unused],
+        [3, unused, left],
+        [3, 0, past_left],
+    ];
+    draw.of(&list).to_vec()
+}
+
+/// Any three numbers.
+fn any_state(draw: &mut Draw) -> Vec<i64> {
+    if draw.one_in(2) {
+        return unfit_state(draw);
+    }
+    let kind = draw.of(&edges(STATE_KIND));
+    let limits = draw.of(&[SCORED, LEFT]);
+    vec![kind, draw.any(POWER), draw.any(limits)]
+}
+
+// any hour
+
+fn fit_hour(draw: &mut Draw, product: Product) -> Asked {
     let mut limits = vec![CAPACITY, PRICE, PRICE];
-    if shifts {
+    if product == Product::Edreg {
         limits.extend([PRICE, PRICE, TARGET, TARGET, TARGET, TARGET, TARGET]);
     }
     let mut head: Vec<_> = limits.iter().map(|limit| draw.fit(*limit)).collect();
@@ -519,16 +648,22 @@ fn fit_hour(draw: &mut Draw, shifts: bool) -> Asked {
     }
     let bands = counted(&fit_bands(draw));
     let earlier = fit_earlier(draw);
+    if product == Product::Sreg {
+        let (begun, frequencies) = (fit_state(draw), event_frequencies(draw, SECONDS));
+        let readings = event_readings(draw, head[0], begun, &frequencies);
+        return Asked { head, limits, bands, earlier, state: state_numbers(begun).to_vec(), readings };
+    }
     let depth = draw.of(&[0, 4, 9, 30, 130]);
     let stumble = draw.of(&[0, 0, 1, 3]);
     let readings = readings(draw, head[0], &planned(&head), depth, stumble);
-    Asked { head, limits, bands, earlier, readings }
+    Asked { head, limits, bands, earlier, state: Vec::new(), readings }
 }
 
 /// One to four numbers of the hour set to an edge.
 fn spoil(draw: &mut Draw, hour: &mut Asked) {
+    let sorts = if hour.state.is_empty() { 6 } else { 7 };
     for _ in 0..=draw.below(4) {
-        match draw.below(6) {
+        match draw.below(sorts) {
             0 | 1 => {
                 let at = draw.below(hour.head.len());
                 hour.head[at] = draw.of(&edges(hour.limits[at]));
@@ -536,6 +671,7 @@ fn spoil(draw: &mut Draw, hour: &mut Asked) {
             2 => hour.bands = if draw.one_in(4) { uncounted(draw) } else { counted_any(draw) },
             3 => hour.earlier = wrong_earlier(draw),
             4 => set_earlier(draw, &mut hour.earlier, score_edge),
+            6 => hour.state = any_state(draw),
             _ => spoil_reading(draw, hour),
         }
     }
@@ -552,48 +688,172 @@ fn spoil_reading(draw: &mut Draw, hour: &mut Asked) {
 }
 
 /// The words for an hour: its fields, its scores, its frame.
-fn hour_words(shifts: bool) -> [&'static str; 3] {
-    if shifts {
-        ["edreg", "edreg_scores", "edreg_frame"]
-    } else {
-        ["dreg", "dreg_scores", "dreg_frame"]
+fn hour_words(product: Product) -> [&'static str; 3] {
+    match product {
+        Product::Dreg => ["dreg", "dreg_scores", "dreg_frame"],
+        Product::Edreg => ["edreg", "edreg_scores", "edreg_frame"],
+        Product::Sreg => ["sreg", "sreg_scores", "sreg_frame"],
     }
 }
 
-fn ask_frame(draw: &mut Draw, text: &mut String, shifts: bool, place: [i64; 2], numbers: &[i64]) {
-    ask(draw, text, hour_words(shifts)[2], &[&place, numbers].concat());
+fn ask_frame(draw: &mut Draw, text: &mut String, product: Product, place: [i64; 2], numbers: &[i64]) {
+    ask(draw, text, hour_words(product)[2], &[&place, numbers].concat());
 }
 
 /// Asks for one of the three.
-fn ask_hour(draw: &mut Draw, text: &mut String, shifts: bool, numbers: &[i64]) {
+fn ask_hour(draw: &mut Draw, text: &mut String, product: Product, numbers: &[i64]) {
     match draw.below(10) {
-        0..=4 => ask(draw, text, hour_words(shifts)[0], numbers),
-        5..=7 => ask(draw, text, hour_words(shifts)[1], numbers),
+        0..=4 => ask(draw, text, hour_words(product)[0], numbers),
+        5..=7 => ask(draw, text, hour_words(product)[1], numbers),
         _ => {
             let place = if draw.one_in(2) { [draw.any(DAY), draw.any(HOUR)] } else { [draw.any(BYTE), draw.any(BYTE)] };
-            ask_frame(draw, text, shifts, place, numbers);
+            ask_frame(draw, text, product, place, numbers);
         }
     }
 }
 
-fn hours(draw: &mut Draw, shifts: bool) -> String {
+fn hours(draw: &mut Draw, product: Product) -> String {
     let mut text = String::new();
     for run in 0..20 {
-        let mut hour = fit_hour(draw, shifts);
+        let mut hour = fit_hour(draw, product);
         if run % 3 == 0 {
             spoil(draw, &mut hour);
         }
-        ask_hour(draw, &mut text, shifts, &hour.numbers());
+        ask_hour(draw, &mut text, product, &hour.numbers());
     }
     text
 }
 
 pub fn dreg(draw: &mut Draw) -> String {
-    hours(draw, false)
+    hours(draw, Product::Dreg)
 }
 
 pub fn edreg(draw: &mut Draw) -> String {
-    hours(draw, true)
+    hours(draw, Product::Edreg)
+}
+
+pub fn sreg(draw: &mut Draw) -> String {
+    hours(draw, Product::Sreg)
+}
+
+/// Asks for an sReg hour's fields and its scores.
+fn ask_sreg(draw: &mut Draw, text: &mut String, hour: &Asked) {
+    let [fields, scores, _] = hour_words(Product::Sreg);
+    ask(draw, text, fields, &hour.numbers());
+    ask(draw, text, scores, &hour.numbers());
+}
+
+/// Events of every length around the ten seconds, the next one after every number of seconds around the ten.
+pub fn sreg_events(draw: &mut Draw) -> String {
+    let mut text = String::new();
+    for _ in 0..6 {
+        let mut hour = fit_hour(draw, Product::Sreg);
+        let mut frequencies = Vec::new();
+        for length in 1..=12 {
+            for after in 0..=12 {
+                put_event(draw, &mut frequencies, length, after);
+            }
+        }
+        frequencies.extend(event_frequencies(draw, SECONDS - frequencies.len()));
+        let state = fit_state(draw);
+        hour.state = state_numbers(state).to_vec();
+        hour.readings = event_readings(draw, hour.head[0], state, &frequencies);
+        ask_sreg(draw, &mut text, &hour);
+    }
+    text
+}
+
+/// The frequencies of two hours: an event starts so long before the first one's end, and returns so many seconds later.
+fn cut_frequencies(draw: &mut Draw, before: usize, length: usize) -> Vec<i64> {
+    let calm = 20;
+    let mut list = event_frequencies(draw, SECONDS - before - calm);
+    list.extend((0..calm).map(|_| high(draw)));
+    let after = span(draw) - 1;
+    put_event(draw, &mut list, length, after);
+    let rest = (2 * SECONDS).saturating_sub(list.len());
+    list.extend(event_frequencies(draw, rest));
+    list.truncate(2 * SECONDS);
+    list
+}
+
+/// Two hours, and the states that they begin in: the first hands its state and its last three scores on to the second.
+struct HandedOn {
+    hours: [Asked; 2],
+    begun: [State; 2],
+}
+
+fn handed_on(draw: &mut Draw, frequencies: &[i64]) -> HandedOn {
+    let mut hours = [0; 2].map(|_| fit_hour(draw, Product::Sreg));
+    let (capacity, state) = (hours[0].head[0], fit_state(draw));
+    let readings = event_readings(draw, capacity, state, frequencies);
+    let (scores, ended) = scores_after(state, capacity, &seconds(&readings[..2 * SECONDS]));
+    let begun = [state, ended];
+    for (at, hour) in hours.iter_mut().enumerate() {
+        hour.head[0] = capacity;
+        hour.state = state_numbers(begun[at]).to_vec();
+        hour.readings = readings[2 * SECONDS * at..2 * SECONDS * (at + 1)].to_vec();
+    }
+    hours[1].earlier = [&[3], &scores[SECONDS - 3..]].concat();
+    HandedOn { hours, begun }
+}
+
+/// For every state that an hour can end in, and for some of a longer event or a longer time after one.
+fn all_handed_on(draw: &mut Draw) -> Vec<HandedOn> {
+    let mut cuts: Vec<_> = (1..=12).map(|before| (before, before + draw.below(12))).collect();
+    for past in 0..=11 {
+        let length = draw.between(1, 13) as usize;
+        cuts.push((length + 1 + past, length));
+    }
+    let hours = |(before, length)| {
+        let frequencies = cut_frequencies(draw, before, length);
+        handed_on(draw, &frequencies)
+    };
+    cuts.into_iter().map(hours).collect()
+}
+
+fn seconds(readings: &[i64]) -> Vec<Second> {
+    readings.chunks(2).map(|pair| (pair[0], pair[1])).collect()
+}
+
+pub fn sreg_handed_on(draw: &mut Draw) -> String {
+    let mut text = String::new();
+    for hour in all_handed_on(draw).iter().flat_map(|both| &both.hours) {
+        ask_sreg(draw, &mut text, hour);
+    }
+    text
+}
+
+/// Whether any two of these hours score, or end, otherwise than the run of their 7,200 seconds.
+pub fn cut_matters(draw: &mut Draw) -> bool {
+    all_handed_on(draw).iter().any(|HandedOn { hours, begun }| {
+        let capacity = hours[0].head[0];
+        let [first, second] = [0, 1].map(|at| scores_after(begun[at], capacity, &seconds(&hours[at].readings)));
+        let run = seconds(&[&hours[0].readings[..], &hours[1].readings].concat());
+        scores_after(begun[0], capacity, &run) != ([first.0, second.0].concat(), second.1)
+    })
+}
+
+/// Every kind with every number beside it at and past its limits, and kinds that are none.
+pub fn sreg_states(draw: &mut Draw) -> String {
+    let mut text = String::new();
+    let mut hour = fit_hour(draw, Product::Sreg);
+    let mut states = Vec::new();
+    for kind in [0, 1, 2, 3, -1, 4, 255, 256, 1 << 32, (1 << 32) + 1, i64::MIN, i64::MAX] {
+        let (power, count) = (draw.fit(POWER), draw.between(1, 9));
+        states.extend([[kind, 0, 0], [kind, power, 0], [kind, 0, count], [kind, power, count]]);
+    }
+    for kind in [0, 1, 2, 3] {
+        let count = draw.between(1, 9);
+        states.extend(edges(POWER).iter().flat_map(|power| [[kind, *power, 0], [kind, *power, count]]));
+        let power = draw.fit(POWER);
+        let counts = (-2..=12).chain([255, 256, 257, 1 << 32, (1 << 32) + 1, i64::MIN, i64::MAX]);
+        states.extend(counts.flat_map(|count| [[kind, 0, count], [kind, power, count]]));
+    }
+    for state in states {
+        hour.state = state.to_vec();
+        ask_hour(draw, &mut text, Product::Sreg, &hour.numbers());
+    }
+    text
 }
 
 /// Scores, and an hour, for each place of the one high earlier score, and for none, by how many first seconds stumble.
@@ -617,13 +877,28 @@ pub fn first_windows(draw: &mut Draw) -> String {
 
 /// An hour of each kind that is calm but for its first seconds.
 fn ask_stumble(draw: &mut Draw, text: &mut String, earlier: &[i64], stumble: usize) {
-    for shifts in [false, true] {
-        let mut hour = fit_hour(draw, shifts);
+    for product in PRODUCTS {
+        let mut hour = fit_hour(draw, product);
         hour.head[0] = draw.between(1000, 50_000);
         hour.earlier = earlier.to_vec();
-        hour.readings = readings(draw, hour.head[0], &planned(&hour.head), 4, stumble);
-        ask(draw, text, hour_words(shifts)[0], &hour.numbers());
+        hour.readings = if product == Product::Sreg {
+            hour.state = state_numbers(State::Outside).to_vec();
+            standby(draw, hour.head[0], stumble)
+        } else {
+            readings(draw, hour.head[0], &planned(&hour.head), 4, stumble)
+        };
+        ask(draw, text, hour_words(product)[0], &hour.numbers());
     }
+}
+
+/// Readings of an sReg hour without an event; so many first seconds stumble.
+fn standby(draw: &mut Draw, capacity: i64, stumble: usize) -> Vec<i64> {
+    let mut list = Vec::new();
+    for second in 0..SECONDS {
+        let output = if second < stumble { draw.between(-5, 40) } else { draw.between(96, 104) };
+        list.extend([power_at(draw, output, 0, capacity), draw.between(59_881, 60_080)]);
+    }
+    list
 }
 
 /// The edges of an hour's number that matter most: in text an hour is long.
@@ -631,14 +906,19 @@ fn ends(Limits(low, high): Limits) -> [i64; 6] {
     [low - 1, low, high, high + 1, i64::MIN, i64::MAX]
 }
 
-/// Places of an hour's numbers, with their limits: the head, the first and the last band, three earlier scores, some readings.
+/// Places of an hour's numbers, with their limits: the head, the first and the last band, three earlier scores, a
+/// responding state's numbers, some readings.
 fn places(hour: &Asked) -> Vec<(usize, Limits)> {
     let bands_at = hour.head.len() + 1;
     let earlier_at = hour.head.len() + hour.bands.len();
-    let readings_at = earlier_at + hour.earlier.len();
+    let state_at = earlier_at + hour.earlier.len();
+    let readings_at = state_at + hour.state.len();
     let mut places: Vec<_> = hour.limits.iter().copied().enumerate().collect();
     places.extend([(bands_at, THRESHOLD), (bands_at + 1, FACTOR), (earlier_at - 2, THRESHOLD), (earlier_at - 1, FACTOR)]);
     places.extend([(earlier_at + 1, SCORE), (earlier_at + 2, BYTE), (earlier_at + 3, SCORE)]);
+    if !hour.state.is_empty() {
+        places.extend([(state_at, STATE_KIND), (state_at + 1, POWER), (state_at + 2, SCORED)]);
+    }
     for second in [0, 1, 1799, SECONDS - 1] {
         places.extend([(readings_at + 2 * second, POWER), (readings_at + 2 * second + 1, FREQUENCY)]);
     }
@@ -646,46 +926,53 @@ fn places(hour: &Asked) -> Vec<(usize, Limits)> {
 }
 
 /// Asks for all three.
-fn ask_all(draw: &mut Draw, text: &mut String, shifts: bool, numbers: &[i64]) {
-    let [fields, scores, _] = hour_words(shifts);
+fn ask_all(draw: &mut Draw, text: &mut String, product: Product, numbers: &[i64]) {
+    let [fields, scores, _] = hour_words(product);
     ask(draw, text, fields, numbers);
     ask(draw, text, scores, numbers);
-    ask_frame(draw, text, shifts, [1, 0], numbers);
+    ask_frame(draw, text, product, [1, 0], numbers);
 }
 
 /// Every limit of an hour's numbers, one past it, and the 64-bit ends, one at a time; then every E that matters.
-fn hour_limits(draw: &mut Draw, shifts: bool) -> String {
+fn hour_limits(draw: &mut Draw, product: Product) -> String {
     let mut text = String::new();
-    let mut fit = fit_hour(draw, shifts);
+    let mut fit = fit_hour(draw, product);
     fit.earlier = earlier_scores(draw, 3);
+    if product == Product::Sreg {
+        fit.state = vec![1, draw.fit(POWER), draw.fit(SCORED)];
+    }
     for (at, limits) in places(&fit) {
         for end in ends(limits) {
             let mut numbers = fit.numbers();
             numbers[at] = end;
-            ask_all(draw, &mut text, shifts, &numbers);
+            ask_all(draw, &mut text, product, &numbers);
         }
     }
     for count in [0, 1, 2, 4, 100] {
         fit.earlier = earlier_scores(draw, count);
-        ask_all(draw, &mut text, shifts, &fit.numbers());
+        ask_all(draw, &mut text, product, &fit.numbers());
     }
     for count in [-1, 101, 256, 259, i64::MIN, i64::MAX] {
         fit.earlier = vec![count];
-        ask_all(draw, &mut text, shifts, &fit.numbers());
+        ask_all(draw, &mut text, product, &fit.numbers());
     }
     fit.earlier = vec![0];
     for place in [[-1, 0], [0, 0], [255, 255], [256, 0], [0, -1], [0, 256], [i64::MIN, 0], [0, i64::MAX]] {
-        ask_frame(draw, &mut text, shifts, place, &fit.numbers());
+        ask_frame(draw, &mut text, product, place, &fit.numbers());
     }
     text
 }
 
 pub fn dreg_limits(draw: &mut Draw) -> String {
-    hour_limits(draw, false)
+    hour_limits(draw, Product::Dreg)
 }
 
 pub fn edreg_limits(draw: &mut Draw) -> String {
-    hour_limits(draw, true)
+    hour_limits(draw, Product::Edreg)
+}
+
+pub fn sreg_limits(draw: &mut Draw) -> String {
+    hour_limits(draw, Product::Sreg)
 }
 
 /// A number just past a limit, or at an end of 64 bits.
@@ -706,8 +993,15 @@ fn refuse(draw: &mut Draw, hour: &mut Asked, refusal: u8) {
     }
 }
 
-/// An earlier score, a reading, or one of each past its limit; a reading alone where no earlier score is counted.
+/// An earlier score, a reading, or one of each past its limit; a reading alone where no earlier score is counted. Also,
+/// for sReg, a state that is none, alone or beside them.
 fn refuse_reading(draw: &mut Draw, hour: &mut Asked) {
+    if !hour.state.is_empty() && draw.one_in(2) {
+        hour.state = unfit_state(draw);
+        if draw.one_in(2) {
+            return;
+        }
+    }
     let counted = (0..=100).contains(&hour.earlier[0]);
     let both = draw.one_in(4);
     let earlier = counted && (both || draw.one_in(2));
@@ -724,13 +1018,16 @@ fn refuse_reading(draw: &mut Draw, hour: &mut Asked) {
 /// An hour for every set of its refusals: the first in their order is the answer.
 pub fn hour_orders(draw: &mut Draw) -> String {
     let mut text = String::new();
-    for (shifts, refusals) in [(false, &[1, 2, 3, 5, 4][..]), (true, &[1, 2, 3, 5, 10, 4])] {
+    let without_targets = &[1, 2, 3, 5, 4][..];
+    let with_targets = &[1, 2, 3, 5, 10, 4][..];
+    for product in PRODUCTS {
+        let refusals = if product == Product::Edreg { with_targets } else { without_targets };
         for set in 1..1 << refusals.len() {
-            let mut hour = fit_hour(draw, shifts);
+            let mut hour = fit_hour(draw, product);
             for (_, refusal) in refusals.iter().enumerate().filter(|(at, _)| set >> at & 1 == 1) {
                 refuse(draw, &mut hour, *refusal);
             }
-            ask_hour(draw, &mut text, shifts, &hour.numbers());
+            ask_hour(draw, &mut text, product, &hour.numbers());
         }
     }
     text
@@ -756,14 +1053,13 @@ pub fn month(draw: &mut Draw) -> String {
     let mut text = String::new();
     ask(draw, &mut text, "frame", &[0, 31, 0, 0]);
     for _ in 0..8 {
-        let shifts = draw.one_in(2);
-        let mut hour = fit_hour(draw, shifts);
+        let product = draw.of(&PRODUCTS);
+        let mut hour = fit_hour(draw, product);
         if draw.one_in(6) {
             spoil(draw, &mut hour);
         }
-        let word = if shifts { "edreg_frame" } else { "dreg_frame" };
         let place = [draw.between(1, 2), draw.between(0, 3)];
-        ask(draw, &mut text, word, &[&place[..], &hour.numbers()].concat());
+        ask_frame(draw, &mut text, product, place, &hour.numbers());
         let (kind, day, hour) = (draw.between(2, 3), draw.between(1, 2), draw.between(0, 3));
         let amount = if kind == 2 { draw.any(AMOUNT) } else { 0 };
         ask(draw, &mut text, "frame", &[kind, day, hour, amount]);
@@ -780,7 +1076,7 @@ pub fn month(draw: &mut Draw) -> String {
 
 // ---- reading
 
-const STRANGERS: [&str; 20] = [
+const STRANGERS: [&str; 23] = [
     "curves",
     "kilowatt",
     "_",
@@ -796,6 +1092,9 @@ const STRANGERS: [&str; 20] = [
     "scorE",
     "curve-",
     "dreg__scores",
+    "sregs",
+    "sreg_score",
+    "sreg_frame",
     "total",
     "line",
     "fee.",
@@ -922,39 +1221,51 @@ fn ask_count(draw: &mut Draw, text: &mut String, word: &str, count: usize) {
 }
 
 /// An E with as many scores as it counts, none of them, one short and one over, before all that else belongs to the question.
-fn earlier_counts(draw: &mut Draw, text: &mut String, count: i64) {
-    let shifts = draw.one_in(2);
-    let mut hour = fit_hour(draw, shifts);
+fn earlier_counts(draw: &mut Draw, text: &mut String, product: Product, count: i64) {
+    let mut hour = fit_hour(draw, product);
     let right = if (0..=100).contains(&count) { count as usize } else { 0 };
     for came in [right, 0, right.saturating_sub(1), right + 1] {
         hour.earlier = vec![100; 1 + came];
         hour.earlier[0] = count;
-        ask_hour(draw, text, shifts, &hour.numbers());
+        ask_hour(draw, text, product, &hour.numbers());
         ask_rate(draw, text, &hour.earlier, &[100; SECONDS]);
     }
-    ask(draw, text, hour_words(shifts)[0], &[&hour.head[..], &hour.bands, &hour.earlier[..1]].concat());
+    ask(draw, text, hour_words(product)[0], &[&hour.head[..], &hour.bands, &hour.earlier[..1]].concat());
     ask(draw, text, "rate", &[count]);
 }
 
 /// Questions whose counts are right, one short, one over, or past the 8,192 that a question holds.
 pub fn counts(draw: &mut Draw) -> String {
     let mut text = String::new();
-    for (word, count) in [("energy", 3606), ("ramp", 2), ("dreg", 4), ("edreg", 11), ("bands", 8192), ("factor", 8192)] {
+    let few = [("ramp", 2), ("dreg", 4), ("edreg", 11), ("sreg", 8)];
+    let many = [("energy", 3606), ("bands", 8192), ("factor", 8192)];
+    for (word, count) in few.into_iter().chain(many) {
         for near in count - 1..=count + 2 {
             ask_count(draw, &mut text, word, near);
         }
     }
-    for (word, shifts) in [("dreg", false), ("edreg", true), ("dreg_scores", false), ("edreg_frame", true)] {
-        let numbers = fit_hour(draw, shifts).numbers();
+    let words = [
+        ("dreg", Product::Dreg),
+        ("edreg", Product::Edreg),
+        ("dreg_scores", Product::Dreg),
+        ("edreg_frame", Product::Edreg),
+        ("sreg", Product::Sreg),
+        ("sreg_scores", Product::Sreg),
+        ("sreg_frame", Product::Sreg),
+    ];
+    for (word, product) in words {
+        let numbers = fit_hour(draw, product).numbers();
         let place: &[i64] = if word.ends_with("frame") { &[1, 2] } else { &[] };
-        for short in [0, 1, 2] {
+        for short in [0, 1, 2, 3] {
             ask(draw, &mut text, word, &[place, &numbers[..numbers.len() - short]].concat());
         }
         ask(draw, &mut text, word, &[place, &numbers, &[0; 1][..]].concat());
         ask(draw, &mut text, word, &[place, &numbers, &[0; 1000][..]].concat());
     }
     for count in [0, 1, 2, 3, 4, 100, 101, -1, i64::MIN, i64::MAX] {
-        earlier_counts(draw, &mut text, count);
+        let product = draw.of(&[Product::Dreg, Product::Edreg]);
+        earlier_counts(draw, &mut text, product, count);
+        earlier_counts(draw, &mut text, Product::Sreg, count);
     }
     for (word, after) in [("rate", "12x 5\n"), ("bands", "12x\n"), ("nothing", "12x\n"), ("kilowatts", "")] {
         ask_count(draw, &mut text, word, 8193);

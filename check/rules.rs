@@ -1,5 +1,6 @@
-//! Document 01's rules for an hour, a ramp and the loss fee, with document 02's #102, from the papers alone and straight from their
-//! definitions: exact fractions in 128 bits, no tables, windows as the papers word them. Every function takes any 64-bit numbers.
+//! Document 01's rules for an hour, a ramp and the loss fee, with document 02's #102 and #103, from the papers alone,
+//! as they define them: exact fractions in 128 bits, no tables, windows as the papers word them, events as stretches of
+//! seconds. Every function takes any 64-bit numbers.
 
 use crate::faults::{wrong, Fault};
 use std::ops::{Add, Mul};
@@ -346,22 +347,208 @@ pub fn energy(shift: &Shift, powers: &[i64]) -> Answer<i64> {
     Ok(energy_of(shift, powers))
 }
 
+// ---- "Static regulation hours" (#103)
+
+const START: i64 = 59_880;
+const RETURN: i64 = 59_980;
+/// How many seconds score 100 from an event's start, and how many after its end.
+const FIRST: usize = 10;
+const AFTER: usize = 10;
+/// The seconds of the first ten that are over, and those left of the ten after, where an hour can end in them.
+pub const SCORED: Limits = Limits(1, 9);
+pub const LEFT: Limits = Limits(1, 10);
+
+/// What an hour begins in and ends in.
+#[derive(Clone, Copy, PartialEq)]
+pub enum State {
+    Outside,
+    /// Within the first ten seconds of an event: the power of its start, and how many of the ten are over.
+    Responding {
+        start: i64,
+        scored: i64,
+    },
+    /// Later in an event.
+    Holding {
+        start: i64,
+    },
+    /// Within the ten seconds after an event: how many are left.
+    Recovering {
+        left: i64,
+    },
+}
+
+fn can_end_an_hour(state: State) -> bool {
+    match state {
+        State::Outside => true,
+        State::Responding { start, scored: 10 } if wrong(Fault::TenScoredTaken) => POWER.hold(start),
+        State::Responding { start, scored } => POWER.hold(start) && SCORED.hold(scored),
+        State::Holding { start } => POWER.hold(start),
+        State::Recovering { left } => LEFT.hold(left),
+    }
+}
+
+/// A second's power and frequency.
+pub type Second = (i64, i64);
+
+/// An event by the places of its first second and, where it is over, of its last.
+struct Event {
+    start: usize,
+    end: Option<usize>,
+}
+
+/// "An event starts in the second the frequency is at or below 59.88 Hz" and lasts "until the second at or above 59.98
+/// Hz". Falls and returns take turns, wherever they come: a return in the first ten seconds ends an event, a fall in
+/// the ten seconds after it starts one.
+fn events(frequencies: &[i64]) -> Vec<Event> {
+    let start_mark = if wrong(Fault::StartAbove) { START + 1 } else { START };
+    let return_mark = if wrong(Fault::ReturnBelow) { RETURN - 1 } else { RETURN };
+    let least = if wrong(Fault::EarlyReturnIgnored) { FIRST } else { 1 };
+    let deaf = if wrong(Fault::FallIgnored) { 1 + AFTER } else { 1 };
+    let falls = |from: usize| (from..frequencies.len()).find(|at| frequencies[*at] <= start_mark);
+    let returns = |from: usize| (from..frequencies.len()).find(|at| frequencies[*at] >= return_mark);
+    let mut list = Vec::new();
+    let mut next = falls(0);
+    while let Some(start) = next {
+        let end = returns(start + least);
+        let within = |fall: &usize| wrong(Fault::StartedAnew) && end.is_none_or(|end| *fall < end);
+        let anew = falls(start + 1).filter(within);
+        list.push(Event { start, end: anew.or(end) });
+        next = anew.or(end.and_then(|end| falls(end + deaf)));
+    }
+    list
+}
+
+/// What a second is judged by.
+#[derive(Clone, Copy)]
+pub enum Judged {
+    /// Its own power: outside events.
+    Standby,
+    /// Nothing: it scores 100.
+    Full,
+    /// Its power beside that of the second at this place, in which the event started.
+    Since(usize),
+}
+
+/// Every event laid over the seconds in its turn: all of its own, those from the eleventh on, the ten after it. A later
+/// event lies over these.
+pub fn judged(frequencies: &[i64]) -> Vec<Judged> {
+    let count = frequencies.len();
+    let first = if wrong(Fault::ElevenAtFirst) { 11 } else { FIRST };
+    let after = if wrong(Fault::NineAfter) { 9 } else { AFTER };
+    let mut list = vec![Judged::Standby; count];
+    for Event { start, end } in events(frequencies) {
+        let over = end.map_or(count, |end| end + 1);
+        let judged = if wrong(Fault::EndNotJudged) { end.unwrap_or(count) } else { over };
+        list[start..over].fill(Judged::Full);
+        list[judged.min(start + first)..judged].fill(Judged::Since(start));
+        list[over..count.min(over + after)].fill(Judged::Full);
+    }
+    list
+}
+
+/// "The start second's power."
+fn start_power(run: &[Second], start: usize) -> i64 {
+    run[if wrong(Fault::PowerBeforeStart) { start.saturating_sub(1) } else { start }].0
+}
+
+fn frequencies_of(run: &[Second]) -> Vec<i64> {
+    let own = run.iter().map(|(_, frequency)| *frequency);
+    if wrong(Fault::SecondBefore) {
+        return run.iter().take(1).map(|(_, frequency)| *frequency).chain(own).take(run.len()).collect();
+    }
+    own.collect()
+}
+
+/// The scores of a run of seconds, of any length, that begins outside events.
+fn run_scores(capacity: i64, run: &[Second]) -> Vec<i64> {
+    let percent = |kilowatts: i64| percent_output(kilowatts, 0, capacity).clamp(SCORE.0, SCORE.1);
+    let score = |(judged, (power, _)): (Judged, &Second)| match judged {
+        Judged::Standby => percent(*power),
+        Judged::Full => SCORE.1,
+        Judged::Since(start) => percent(start_power(run, start) - power),
+    };
+    judged(&frequencies_of(run)).into_iter().zip(run).map(score).collect()
+}
+
+/// The state after a run of seconds that begins outside events: its last event tells.
+fn run_end(run: &[Second]) -> State {
+    let Some(Event { start, end }) = events(&frequencies_of(run)).pop() else {
+        return State::Outside;
+    };
+    let power = start_power(run, start);
+    match (run.len() - start, end.map(|end| run.len() - 1 - end)) {
+        (scored, None) if scored < FIRST => State::Responding { start: power, scored: scored as i64 },
+        (_, None) => State::Holding { start: power },
+        (_, Some(past)) if past < AFTER => State::Recovering { left: (AFTER - past) as i64 },
+        _ => State::Outside,
+    }
+}
+
+/// Seconds that lead from outside into a state: one that starts an event, and so many more.
+pub fn lead_in(state: State) -> Vec<Second> {
+    let event = |power: i64, seconds: usize| [vec![(power, START)], vec![(0, START + 20); seconds - 1]].concat();
+    match state {
+        _ if wrong(Fault::StateDropped) => Vec::new(),
+        State::Outside => Vec::new(),
+        State::Responding { start, scored } => event(start, scored as usize),
+        State::Holding { start } => event(start, FIRST),
+        State::Recovering { left } => [event(0, 1), vec![(0, RETURN); 1 + AFTER - left as usize]].concat(),
+    }
+}
+
+/// The scores of seconds after a state, and the state that they end in: they are the last of a run that begins outside.
+pub fn scores_after(state: State, capacity: i64, seconds: &[Second]) -> (Vec<i64>, State) {
+    let begun = lead_in(state);
+    let run = [&begun[..], seconds].concat();
+    (run_scores(capacity, &run).split_off(begun.len()), run_end(&run))
+}
+
 // ---- the hour
 
-/// An hour handed in; `shift` is there for E-dReg alone.
+/// What an hour has beside that of dReg, by its product.
+pub enum Beside {
+    Nothing,
+    /// E-dReg.
+    Shift(Shift),
+    /// sReg: the state handed in, where what was handed in is one.
+    State(Option<State>),
+}
+
+/// An hour handed in.
 pub struct Hour {
     pub capacity: i64,
     pub clearing: i64,
     pub performance: i64,
-    pub shift: Option<Shift>,
+    pub beside: Beside,
     pub bands: Vec<Band>,
     pub earlier: Earlier,
     pub powers: Vec<i64>,
     pub frequencies: Vec<i64>,
 }
 
+impl Hour {
+    fn shift(&self) -> Option<&Shift> {
+        match &self.beside {
+            Beside::Shift(shift) => Some(shift),
+            _ => None,
+        }
+    }
+
+    /// "Powers and frequencies of the same seconds."
+    fn seconds(&self) -> Vec<Second> {
+        self.powers.iter().copied().zip(self.frequencies.iter().copied()).collect()
+    }
+
+    /// Whether a state is handed in that no hour can end in.
+    fn state_unfit(&self) -> bool {
+        matches!(self.beside, Beside::State(state) if !state.is_some_and(can_end_an_hour))
+    }
+}
+
 pub struct Settled {
     pub scores: Vec<i64>,
+    /// What an sReg hour ends in.
+    pub state: State,
     pub rate: i64,
     pub factor: i64,
     pub capacity_fee: i64,
@@ -380,7 +567,7 @@ pub fn transfers(shift: &Shift) -> Vec<i64> {
 
 /// "The power of second t is judged by the frequency of second t-1": the two stand at the same place of their runs.
 fn scores_of(hour: &Hour) -> Vec<i64> {
-    let planned = hour.shift.as_ref().map_or(vec![0; hour.powers.len()], transfers);
+    let planned = hour.shift().map_or(vec![0; hour.powers.len()], transfers);
     let judged_by = |at: usize| if wrong(Fault::OwnSecond) { (at + 1).min(hour.frequencies.len() - 1) } else { at };
     let second = |at: usize| score_of(percent_output(hour.powers[at], planned[at], hour.capacity), hour.frequencies[judged_by(at)]);
     (0..hour.powers.len()).map(second).collect()
@@ -388,12 +575,14 @@ fn scores_of(hour: &Hour) -> Vec<i64> {
 
 fn hour_refused(hour: &Hour) -> Answer<()> {
     let award = PRICE.hold_all(&[hour.clearing, hour.performance]);
-    let shift = hour.shift.as_ref();
+    let shift = hour.shift();
     let shift_prices = shift.iter().all(|shift| PRICE.hold_all(&[shift.discharge, shift.charge]));
     let shift_targets = shift.iter().all(|shift| TARGET.hold(shift.before) && TARGET.hold_all(&shift.targets));
     let readings = POWER.hold_all(&hour.powers) && FREQUENCY.hold_all(&hour.frequencies);
     let earlier = SCORE.hold_all(&hour.earlier.scores);
-    if wrong(Fault::EarlierBeforeCapacity) && hour.earlier.counts() && !earlier {
+    let earlier_first = wrong(Fault::EarlierBeforeCapacity) && !earlier;
+    let state_first = wrong(Fault::StateBeforeCapacity) && hour.state_unfit();
+    if (earlier_first || state_first) && hour.earlier.counts() {
         return Err(4);
     }
     first_refused(
@@ -404,21 +593,25 @@ fn hour_refused(hour: &Hour) -> Answer<()> {
             (3, !(award && shift_prices)),
             (5, !bands_fit(&hour.bands)),
             (10, !shift_targets),
-            (4, !(readings && earlier)),
+            (4, !(readings && earlier) || hour.state_unfit()),
         ],
     )
 }
 
 pub fn settle(hour: &Hour) -> Answer<Settled> {
     hour_refused(hour)?;
-    let scores = scores_of(hour);
+    let (scores, state) = match hour.beside {
+        Beside::State(Some(state)) => scores_after(state, hour.capacity, &hour.seconds()),
+        _ => (scores_of(hour), State::Outside),
+    };
     let rate = rate_of(&hour.earlier.scores, &scores);
     let factor = factor_of(&hour.bands, rate);
     let capacity_fee = fee_of(hour.clearing, hour.capacity);
     let performance_fee = fee_of(hour.performance, hour.capacity);
     let quality = quality_of(capacity_fee, performance_fee, factor);
-    let energy = hour.shift.as_ref().map_or(0, |shift| energy_of(shift, &hour.powers));
-    Ok(Settled { scores, rate, factor, capacity_fee, performance_fee, quality, energy, amount: quality + energy })
+    let energy = hour.shift().map_or(0, |shift| energy_of(shift, &hour.powers));
+    let amount = quality + energy;
+    Ok(Settled { scores, state, rate, factor, capacity_fee, performance_fee, quality, energy, amount })
 }
 
 // ---- "Loss fee"

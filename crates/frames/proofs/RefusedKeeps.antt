@@ -8,7 +8,7 @@ use Rattle.whole.specs.Refused.{RefusedBare}
 use Rattle.whole.proofs.Choice.{kept-old}
 use Rattle.whole.proofs.Refused.{refused-bare}
 use Rattle.words.specs.declared.Framing.{Framing}
-use Rattle.words.specs.declared.Framing.the-variants.{DregFrame, EdregFrame, Frame, LossFrames}
+use Rattle.words.specs.declared.Framing.the-variants.{DregFrame, EdregFrame, SregFrame, Frame, LossFrames}
 use Rattle.hours.specs.Hours.{HourNumbers}
 use Rattle.frames.specs.Frames.{entryRefusal, noEntry, single, framedBy, frameAsked, hourPost, lossAsked, lossFrames, frameAnswer}
 use Rattle.frames.specs.declared.Framed.{Framed}
@@ -28,6 +28,7 @@ answer-bare : (asks : Framing) (n : List ℤ) (given : HourNumbers) → (let x =
 unfolding frameAsked hourPost lossFrames
 answer-bare DregFrame n given f = framed-bare _ _ _ _ _ f
 answer-bare EdregFrame n given f = framed-bare _ _ _ _ _ f
+answer-bare SregFrame n given f = framed-bare _ _ _ _ _ f
 answer-bare Frame n given f = framed-bare _ _ _ _ _ f
 answer-bare LossFrames n given f =
     refused-bare (λ (x : Framed). x .refusal) bare (lossAsked n .refusal) _ refl refl refl f

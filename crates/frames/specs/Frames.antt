@@ -11,9 +11,9 @@ use Rattle.frame.specs.Kinds.{postKind, basicFeeKind, excessFeeKind}
 use Rattle.frame.specs.declared.Entry.{Entry}
 use Rattle.numbers.specs.Numbers.{number, isByte, byteOf}
 use Rattle.words.specs.declared.Hour.{Hour}
-use Rattle.words.specs.declared.Hour.the-variants.{Dreg, Edreg}
+use Rattle.words.specs.declared.Hour.the-variants.{Dreg, Edreg, Sreg}
 use Rattle.words.specs.declared.Framing.{Framing}
-use Rattle.words.specs.declared.Framing.the-variants.{DregFrame, EdregFrame, Frame, LossFrames}
+use Rattle.words.specs.declared.Framing.the-variants.{DregFrame, EdregFrame, SregFrame, Frame, LossFrames}
 use Rattle.hours.specs.Hours.{HourNumbers, hourAsked, settlement}
 use Rattle.loss.specs.Loss.{lossAnswer}
 use Rattle.loss.specs.declared.LossFee.{LossFee}
@@ -64,5 +64,6 @@ lossFrames n =
 abbrev pub frameAnswer : Framing → List ℤ → HourNumbers → Framed
 frameAnswer DregFrame n given = hourPost Dreg n given
 frameAnswer EdregFrame n given = hourPost Edreg n given
+frameAnswer SregFrame n given = hourPost Sreg n given
 frameAnswer Frame n given = frameAsked n
 frameAnswer LossFrames n given = lossFrames n

@@ -35,6 +35,7 @@ pub fn answer(
     match asks {
         Framing::DregFrame => post(Hour::Dreg, head, terms, bands, counted, earlier, readings),
         Framing::EdregFrame => post(Hour::Edreg, head, terms, bands, counted, earlier, readings),
+        Framing::SregFrame => post(Hour::Sreg, head, terms, bands, counted, earlier, readings),
         Framing::Frame => asked(head),
         Framing::LossFrames => loss_frames(head),
     }

@@ -137,18 +137,18 @@ module _ (h : WholeHour) (places : ℕ) (f : HourFits h places) (five : Five (h 
   rate-plain : rateOf h ≡ smallest (rolling (h .earlier) (scoresOf h))
   rate-plain = ap (λ (x : Rated). x .rate) (rate-granted (h .earlier) (scoresOf h) hour-scores-fit)
 
-  factor-plain : (rate : ℕ) → rate ≤ mostScore → factorAnswer (h .thresholds) (h .factors) rate .factor ≡ getD (h .factors) (firstPlace (h .thresholds) (pos rate)) (pos 0)
+  pub factor-plain : (rate : ℕ) → rate ≤ mostScore → factorAnswer (h .thresholds) (h .factors) rate .factor ≡ getD (h .factors) (firstPlace (h .thresholds) (pos rate)) (pos 0)
   unfolding bandsRefusal
   factor-plain rate l =
       ap (λ (x : Factored). x .factor) (factor-granted (h .thresholds) (h .factors) rate (lookup-passes (h .thresholds) (h .factors) rate (rw (f .bands)) l))
 
   -- ---- the fees
 
-  fee-plain : (price : ℤ) → isPrice price ≡ true → feeAnswer price (h .terms .capacity) .dollars .0 ≡ fee price (h .terms .capacity .0)
+  pub fee-plain : (price : ℤ) → isPrice price ≡ true → feeAnswer price (h .terms .capacity) .dollars .0 ≡ fee price (h .terms .capacity .0)
   unfolding chargeOf
   fee-plain price e = ap (λ (x : Charged). x .dollars .0) (fee-granted (record { size = f .capacity; money = e }))
 
-  quality-plain : (factor : ℤ) → isFactor factor ≡ true →
+  pub quality-plain : (factor : ℤ) → isFactor factor ≡ true →
       let a = feeAnswer (h .terms .clearing) (h .terms .capacity) .dollars in
       let b = feeAnswer (h .terms .performance) (h .terms .capacity) .dollars in
       qualityAnswer a b factor .dollars .0 ≡ qualityPart (a .0) (b .0) factor

@@ -9,6 +9,10 @@ use Rattle.hour.proofs.dreg_hour.Reads as dreg-hour-reads
 use Rattle.hour.proofs.dreg_hour.Kinds as dreg-hour-kinds
 use Rattle.hour.proofs.refused_hour.Reads as refused-hour-reads
 use Rattle.hour.proofs.refused_hour.Kinds as refused-hour-kinds
+use Rattle.hour.proofs.terms_refusal.Reads as terms-refusal-reads
+use Rattle.hour.proofs.terms_refusal.Kinds as terms-refusal-kinds
+use Rattle.hour.proofs.settled_by_scores.Reads as settled-by-scores-reads
+use Rattle.hour.proofs.settled_by_scores.Kinds as settled-by-scores-kinds
 
 hour-determined : Determined 6 hour-kinds.ps hour-kinds.r hour-reads.Post
 hour-determined κs a x y s t p q = p .0 ∙ sym (q .0)
@@ -24,3 +28,9 @@ dreg-hour-scores-determined κs a x y s t p q = p .1 ∙ sym (q .1)
 
 refused-hour-determined : Determined 0 refused-hour-kinds.ps refused-hour-kinds.r refused-hour-reads.Post
 refused-hour-determined κs a x y s t p q = p ∙ sym q
+
+terms-refusal-determined : Determined 2 terms-refusal-kinds.ps terms-refusal-kinds.r terms-refusal-reads.Post
+terms-refusal-determined κs a x y s t p q = p ∙ sym q
+
+settled-by-scores-determined : Determined 4 settled-by-scores-kinds.ps settled-by-scores-kinds.r settled-by-scores-reads.Post
+settled-by-scores-determined κs a x y s t p q = p ∙ sym q

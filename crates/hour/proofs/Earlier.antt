@@ -87,14 +87,16 @@ larger-rate {scores = scores} s t {a} {b} {c} {p} {q} {r} e f i j k =
     let other = t .rate ∙ ap (λ (v : List ℕ). smallest (rolling v scores)) f in
     rw (one, other) (larger-more a b c p q r scores i j k)
 
+-- rates by the rolling rule, the second after the last three scores of the first: as one run of seconds is rated
+pub by-rates : (earlier first second : List ℕ) {x y : Settlement} → earlierScores ≤ length first → x .rate ≡ smallest (rolling earlier first) → y .rate ≡ smallest (rolling (lastThree first) second)
+    → OneRun earlier first second x y
+by-rates earlier first second enough a b =
+    record { first-rate = a ∙ ap smallest (first-hour earlier first second enough); second-rate = b ∙ ap smallest (second-hour earlier first second enough) }
+
 -- two accepted hours, of any service, the second handed the last three scores of the first
 pub one-run : {g h : WholeHour} {first second : List ℕ} {x y : Settlement} → Accepted g first x → Accepted h second y → h .earlier ≡ lastThree first
     → OneRun (g .earlier) first second x y
-one-run {g} {h} {first} {second} a b e =
-    record {
-      first-rate = a .rate ∙ ap smallest (first-hour (g .earlier) first second (enough a));
-      second-rate = b .rate ∙ ap (λ (l : List ℕ). smallest (rolling l second)) e ∙ ap smallest (second-hour (g .earlier) first second (enough a));
-    }
+one-run {g} {h} {first} {second} a b e = by-rates (g .earlier) first second (enough a) (a .rate) (b .rate ∙ ap (λ (l : List ℕ). smallest (rolling l second)) e)
 
 -- ---- over the contracts
 

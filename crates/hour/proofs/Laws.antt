@@ -26,9 +26,9 @@ use Rattle.score.specs.Run.{runRefusal, runScores}
 use Rattle.rate.specs.Rolling.{earlierFit, areScores}
 use Rattle.fees.specs.Fees.{qualityAnswer, mostEnergyFee, mostHourAmount}
 use Rattle.fees.proofs.Laws.{energy-within, amount-within}
-use Rattle.hour.specs.Hour.{Service, dReg, eDReg, WholeHour, transfersOf, energyOf, energyPricesFit, targetsFit, secondsFit, lengthsFit, readingsFit, testsOf, readingsTests, hourRefusal, scoresOf, scoresLeft, grantedHour, settledOf, refusedHour, rateOf, hourAnswer}
+use Rattle.hour.specs.Hour.{termsRefusal, Service, dReg, eDReg, WholeHour, transfersOf, energyOf, energyPricesFit, targetsFit, secondsFit, lengthsFit, readingsFit, testsOf, readingsTests, hourRefusal, scoresOf, scoresLeft, grantedHour, settledOf, refusedHour, rateOf, hourAnswer}
 use Rattle.hour.specs.Accepted.{transferIn, HourFits}
-use Rattle.hour.specs.Inner.{workedRefusal, workedOf, workedLeft, termsRefusal}
+use Rattle.hour.specs.Inner.{workedRefusal, workedOf, workedLeft}
 use Rattle.hour.specs.declared.Settlement.{Settlement}
 
 -- ---- the tests

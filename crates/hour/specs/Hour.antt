@@ -93,6 +93,11 @@ termsTests lengths terms thresholds factors priced planned =
     ∷ (planned, badTransfer)
     ∷ []
 
+-- by the lengths of the runs
+unfoldable pub termsRefusal : ℕ → ℕ → ℕ → ℕ → Terms → List ℤ → List ℤ → Bool → Bool → ℕ
+termsRefusal powers frequencies earlier places terms thresholds factors priced planned =
+    inOrder (termsTests (lengthsFit powers frequencies earlier places) terms thresholds factors priced planned)
+
 abbrev pub testsOf : WholeHour → ℕ → List (Bool × ℕ)
 testsOf h places =
     termsTests (lengthsFit (length (h .powers)) (length (h .frequencies)) (length (h .earlier)) places) (h .terms) (h .thresholds) (h .factors) (energyPricesFit (h .service)) (targetsFit (h .service))

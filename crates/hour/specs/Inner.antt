@@ -1,23 +1,17 @@
--- What only mirrors the code: the refusals but for those of the readings and the earlier scores, which the core tests, and the core of both hours, by its transfers and its energy
--- service fee, once the terms are let through.
+-- What only mirrors the code: the core of both hours, by its transfers and its energy service fee, once the terms are let through.
 use Prim.Native.Nat.{ℕ}
-use mathlib.Core.Bool.{Bool}
 use mathlib.Core.List.{List}
 use lib.IntN.{ℤ}
 use lib.ListN.{length}
-use Rattle.whole.specs.Choice.{unless, inOrder, kept}
+use Rattle.whole.specs.Choice.{unless, kept}
 use Rattle.units.specs.Refusals.{badReading}
 use Rattle.units.specs.declared.Kilowatts.{Kilowatts}
 use Rattle.units.specs.declared.Dollars.{Dollars}
 use Rattle.score.specs.Run.{runRefusal, runScores}
 use Rattle.rate.specs.Rolling.{areScores, hourlyRate}
-use Rattle.hour.specs.Hour.{lengthsFit, termsTests, settledOf, refusedHour}
+use Rattle.hour.specs.Hour.{settledOf, refusedHour}
 use Rattle.hour.specs.declared.Terms.{Terms}
 use Rattle.hour.specs.declared.Settlement.{Settlement}
-
-unfoldable pub termsRefusal : ℕ → ℕ → ℕ → ℕ → Terms → List ℤ → List ℤ → Bool → Bool → ℕ
-termsRefusal powers frequencies earlier places terms thresholds factors priced planned =
-    inOrder (termsTests (lengthsFit powers frequencies earlier places) terms thresholds factors priced planned)
 
 -- 4 for an earlier score, then the run's own number
 unfoldable pub workedRefusal : List ℤ → List ℤ → List ℤ → Kilowatts → List ℕ → ℕ → ℕ

@@ -1,7 +1,7 @@
 // The hour, dReg or E-dReg: its refusals in order, its scores, its rate and its fees.
 ghost use mathlib.Core.Path.{_≡_};
 ghost use mathlib.Core.Bool.{true, _&&_};
-ghost use lib.IntN.{_+ℤ_};
+ghost use lib.IntN.{pos, _+ℤ_};
 ghost use lib.ListN.{length, take, drop};
 ghost use mir.Syntax.{w64};
 ghost use mir.Val.{SFits};
@@ -12,8 +12,8 @@ ghost use Rattle.fees.specs.Fees.{feeAnswer, qualityAnswer, energyAnswer, mostE
 ghost use Rattle.bands.specs.Bands.{factorAnswer};
 ghost use Rattle.ramp.specs.Ramp.{planOf};
 ghost use Rattle.rate.specs.Rolling.{hourlyRate};
-ghost use Rattle.hour.specs.Hour.{eDReg, dRegHour, eDRegHour, energyOf, energyPricesFit, targetsFit, lengthsFit, scoresLeft, grantedHour, refusedHour, settledOf, hourAnswer};
-ghost use Rattle.hour.specs.Inner.{workedOf, workedLeft, termsRefusal};
+ghost use Rattle.hour.specs.Hour.{termsRefusal, eDReg, dRegHour, eDRegHour, energyOf, energyPricesFit, targetsFit, lengthsFit, scoresLeft, grantedHour, refusedHour, settledOf, hourAnswer};
+ghost use Rattle.hour.specs.Inner.{workedOf, workedLeft};
 use units::Dollars;
 use units::Kilowatts;
 use units::limits;
@@ -63,7 +63,7 @@ pub fn dreg_hour(
     ensures answers { λ r. ⌜ r ≡ hourAnswer (dRegHour (now (powers .entry)) (now (frequencies .entry)) terms (now (thresholds .entry)) (now (factors .entry)) (now (earlier .entry))) (length (now (scores .entry))) ⌝ }
     ensures leaves { λ r. ⌜ now (scores .exit) ≡ scoresLeft (dRegHour (now (powers .entry)) (now (frequencies .entry)) terms (now (thresholds .entry)) (now (factors .entry)) (now (earlier .entry))) (now (scores .entry)) ⌝ }
 {
-    let k = refusal(
+    let k = terms_refusal(
         powers.len(),
         frequencies.len(),
         earlier.len(),
@@ -148,9 +148,9 @@ pub fn refused_hour(number: u8) -> Settlement
     }
 }
 
-// 1, 2, 3, 5, 10; the readings and the earlier scores are tested where the hour is scored. `priced` and `planned` are
-// the tests of what is shifted.
-fn refusal(
+// 1, 2, 3, 5, 10, for sReg's hour too; the readings and the earlier scores are tested where the hour is scored.
+// `priced` and `planned` are the tests of what is shifted, which pass where nothing is.
+pub fn terms_refusal(
     powers: usize,
     frequencies: usize,
     earlier: usize,
@@ -221,6 +221,20 @@ fn worked(
         return refused_hour(number);
     }
     settled(terms, thresholds, factors, energy, earlier, scores)
+}
+
+// The settlement of an hour that is paid no energy, for sReg's, by its scores and the earlier ones.
+pub fn settled_by_scores(
+    terms: Terms,
+    thresholds: &[i64],
+    factors: &[i64],
+    earlier: &[u8],
+    scores: &[u8],
+) -> Settlement
+    ensures { λ r. ⌜ r ≡ settledOf terms (now (thresholds .entry)) (now (factors .entry)) (dollars (pos 0)) (hourlyRate (now (earlier .entry)) (now (scores .entry)) .rate) ⌝ }
+{
+    let no_energy = Dollars(0);
+    settled(terms, thresholds, factors, no_energy, earlier, scores)
 }
 
 // The rate, the factor and the fees of an hour by its scores.
@@ -313,7 +327,7 @@ fn plus(quality: Dollars, energy: Dollars) -> Dollars
     Dollars(part + service)
 }
 
-// `refusal`, with what is shifted.
+// `terms_refusal`, with what is shifted.
 fn shift_refusal(
     powers: usize,
     frequencies: usize,
@@ -328,7 +342,7 @@ fn shift_refusal(
 {
     let priced = prices_fit(shift.discharge, shift.charge);
     let planned = whole::all_within(&shift.targets, LEAST_TRANSFER, limits::TRANSFER);
-    refusal(
+    terms_refusal(
         powers,
         frequencies,
         earlier,

@@ -1,48 +1,140 @@
--- The hour that a question asks about, from its parts; and what its refusal decides. By the test of its number. Assumes nothing.
-use Prim.Native.Nat.{ℕ, _*_, _/_, _%_, _≤_, _<_, min}
+-- The hour that a question asks about, from its parts; and what its refusal decides. By the test of its number; of the three kinds of hour, each by its own call. Assumes nothing.
+use Prim.Native.Nat.{ℕ, zero, suc, _*_, _/_, _%_, _≤_, _<_, min}
 use native.Mathlib.Omega.{arith}
 use mathlib.Core.Path.{_≡_, refl, sym, ap, _∙_}
 use mathlib.Core.Bool.{Bool, true, false, _&&_, and-false}
-use mathlib.Core.List.{List, [], map}
+use mathlib.Core.List.{List}
 use lib.Dec.{eqb, leb}
 use lib.IntN.{ℤ, pos}
-use lib.ListN.{length}
+use lib.ListN.{length, getD}
 use borrow.Author.Tests.{leb-true, leb-false}
-use Rattle.whole.specs.Choice.{kept}
-use Rattle.whole.proofs.Choice.{and-both, by-test, clash, kept-any}
+use Rattle.whole.specs.Choice.{pick, kept}
+use Rattle.whole.specs.Runs.{listed}
+use Rattle.whole.specs.Whole.{Within}
+use Rattle.whole.proofs.Choice.{and-both, by-test, clash, kept-any, kept-old}
 use Rattle.units.specs.Limits.{mostBands, earlierScores, secondsOfHour}
 use Rattle.bands.specs.Bands.{bandsFit}
 use Rattle.bands.proofs.Laws.{bands-fit}
 use Rattle.units.specs.Refusals.{wrongLength}
+use Rattle.fees.specs.Fees.{mostHourAmount}
 use Rattle.rate.proofs.Rates.{more-unfit}
-use Rattle.hour.specs.Hour.{Service, WholeHour, transfersOf, secondsFit, hourRefusal, hourAnswer, refusedHour, scoresOf, scoresLeft}
-use Rattle.hour.proofs.Laws.{fit, refusal-is, hour-refused, scores-long}
-use Rattle.score.specs.Run.{runScoreAt}
-use Rattle.score.proofs.Laws.{score-within}
+use Rattle.hour.specs.Hour.{WholeHour, secondsFit, hourRefusal, hourAnswer, refusedHour, scoresOf, scoresLeft}
+use Rattle.hour.proofs.Laws.{fit, refusal-is, hour-refused, scores-long, hour-within}
 use Rattle.hour.specs.declared.Terms.{Terms}
+use Rattle.hour.specs.declared.Shift.{Shift}
+use Rattle.hour.specs.declared.Settlement.{Settlement}
+use Rattle.score.specs.Run.{runScores, runScoreAt}
+use Rattle.score.proofs.Laws.{score-within}
+use Rattle.sreg.specs.declared.EventState.{EventState}
+use Rattle.sreg.specs.declared.EventState.the-variants.{Outside, Responding, Holding, Recovering}
+use Rattle.sreg.proofs.Seconds.{scores-most}
+use Rattle.sreg_hour.specs.Hour.{sRegRefusal, sRegScores, sRegLeft, refusedSReg}
+use Rattle.sreg_hour.specs.declared.Settled.{Settled}
+use Rattle.sreg_hour.proofs.Laws as static
 use Rattle.numbers.specs.Numbers.{scoresIn, column}
 use Rattle.numbers.specs.Inner.{firstFour, taken}
 use Rattle.numbers.specs.declared.Earlier.{Earlier}
 use Rattle.numbers.proofs.Columns.{length-column}
 use Rattle.numbers.proofs.Bytes.{four-same}
 use Rattle.words.specs.declared.Hour as words
-use Rattle.hours.specs.Inner.{pairsIn}
-use Rattle.hours.specs.Hours.{HourNumbers, Basis, hourFrom, countsFit, hourBy, settlement, scoresAfter, hourReply}
+use Rattle.words.specs.declared.Hour.the-variants.{Dreg, Edreg, Sreg}
+use Rattle.words.specs.Inner.{boxed}
+use Rattle.hours.specs.Inner.{pairsIn, inTwelve}
+use Rattle.hours.specs.Hours.{HourNumbers, Basis, serviceOf, hourFrom, countsFit, hourBy, hourAsked, stated, endedBy, leftBy, scoresBy, ended, settlement, scoresIs, scoresAfter, stateFields, hourShown, hourReply}
+
+-- ---- the three kinds, each by its own call
+
+-- the number that the call refuses with
+abbrev pub refusalBy : words.Hour → EventState → WholeHour → ℕ → ℕ
+refusalBy Dreg state h places = hourRefusal h places
+refusalBy Edreg state h places = hourRefusal h places
+refusalBy Sreg state h places = sRegRefusal (stated state h) places
+
+abbrev bare : Settlement → Settled
+bare a = record { hour = a; state = Outside }
+
+number-by : (a : words.Hour) (s : EventState) (h : WholeHour) (n : ℕ) → endedBy a s h n .hour .refusal ≡ refusalBy a s h n
+number-by Dreg s h n = refusal-is h n
+number-by Edreg s h n = refusal-is h n
+number-by Sreg s h n = static.refusal-is (stated s h) n
+
+refused-by : (a : words.Hour) (s : EventState) (h : WholeHour) (n : ℕ) → (refusalBy a s h n ≡ 0 → ⊥) → endedBy a s h n ≡ refusedSReg (refusalBy a s h n)
+refused-by Dreg s h n f = ap bare (hour-refused h n f)
+refused-by Edreg s h n f = ap bare (hour-refused h n f)
+refused-by Sreg s h n f = static.refused-is (stated s h) n f
+
+left-by : (a : words.Hour) (s : EventState) (h : WholeHour) (run : List ℕ) → leftBy a s h run ≡ kept (refusalBy a s h (length run)) (scoresBy a s h) run
+unfolding scoresLeft sRegLeft
+left-by Dreg s h run = refl
+left-by Edreg s h run = refl
+left-by Sreg s h run = refl
+
+long-by : (a : words.Hour) (s : EventState) (h : WholeHour) (n : ℕ) → refusalBy a s h n ≡ 0 → length (scoresBy a s h) ≡ secondsOfHour
+long-by Dreg s h n e = scores-long h n e
+long-by Edreg s h n e = scores-long h n e
+long-by Sreg s h n e = static.scores-long (stated s h) n e
+
+pub amount-by : (a : words.Hour) (s : EventState) (h : WholeHour) (n : ℕ) → Within mostHourAmount (endedBy a s h n .hour .amount .0)
+amount-by Dreg s h n = hour-within h n
+amount-by Edreg s h n = hour-within h n
+amount-by Sreg s h n = static.hour-within (stated s h) n
+
+-- bands that fit, where nothing is refused
+bands-by : (a : words.Hour) (s : EventState) (h : WholeHour) (n : ℕ) → refusalBy a s h n ≡ 0 → bandsFit (h .thresholds) (h .factors) ≡ true
+bands-by Dreg s h n e = fit h n e .bands
+bands-by Edreg s h n e = fit h n e .bands
+bands-by Sreg s h n e = static.fit (stated s h) n e .bands
+
+-- 1 for more earlier scores than an hour takes
+many-by : (a : words.Hour) (s : EventState) (h : WholeHour) (n : ℕ) → earlierScores < length (h .earlier) → refusalBy a s h n ≡ wrongLength
+unfolding hourRefusal sRegRefusal
+many-by Dreg s h n many = rw (more-unfit (length (h .earlier)) many, and-false (secondsFit (length (h .powers)) (length (h .frequencies)) n))
+many-by Edreg s h n many = rw (more-unfit (length (h .earlier)) many, and-false (secondsFit (length (h .powers)) (length (h .frequencies)) n))
+many-by Sreg s h n many = rw (more-unfit (length (h .earlier)) many, and-false (secondsFit (length (h .powers)) (length (h .frequencies)) n))
+
+-- the bands do not change the scores; and of bands that do not fit it does not matter which
+scores-same : (a : words.Hour) (s : EventState) (shift : Shift) (powers frequencies : List ℤ) (terms : Terms) (earlier : List ℕ) (t g u v : List ℤ) →
+    let service = serviceOf a shift in
+    scoresBy a s (hourFrom powers frequencies terms service t g earlier) ≡ scoresBy a s (hourFrom powers frequencies terms service u v earlier)
+unfolding scoresOf sRegScores
+scores-same Dreg s shift powers frequencies terms earlier t g u v = refl
+scores-same Edreg s shift powers frequencies terms earlier t g u v = refl
+scores-same Sreg s shift powers frequencies terms earlier t g u v = refl
+
+unfit-same : (a : words.Hour) (s : EventState) (shift : Shift) (powers frequencies : List ℤ) (terms : Terms) (earlier : List ℕ) (t g u v : List ℤ) (n : ℕ) → bandsFit t g ≡ false → bandsFit u v ≡ false →
+    let service = serviceOf a shift in
+    refusalBy a s (hourFrom powers frequencies terms service t g earlier) n ≡ refusalBy a s (hourFrom powers frequencies terms service u v earlier) n
+unfolding hourRefusal sRegRefusal
+unfit-same Dreg s shift powers frequencies terms earlier t g u v n one other = rw (one, other)
+unfit-same Edreg s shift powers frequencies terms earlier t g u v n one other = rw (one, other)
+unfit-same Sreg s shift powers frequencies terms earlier t g u v n one other = rw (one, other)
+
+-- a score is at most 100
+listed-small : (f : ℕ → ℕ) → ((k : ℕ) → f k ≤ 100) → (i n k : ℕ) → getD (listed f i n) k 0 ≤ 100
+listed-small f h i zero k = omega arith
+listed-small f h i (suc n) zero = h i
+listed-small f h i (suc n) (suc k) = listed-small f h (suc i) n k
+
+pub score-small : (a : words.Hour) (s : EventState) (h : WholeHour) (i : ℕ) → getD (scoresBy a s h) i 0 ≤ 100
+unfolding scoresOf runScores runScoreAt sRegScores
+score-small Dreg s h i = listed-small _ (λ k. score-within _ _ _ _) 0 (length (h .powers)) i
+score-small Edreg s h i = listed-small _ (λ k. score-within _ _ _ _) 0 (length (h .powers)) i
+score-small Sreg s h i = scores-most s (h .terms .capacity .0) (h .powers) (h .frequencies) i
 
 -- ---- the refusal's number, of an hour whose numbers are as many as there are to be
 
 module _ (h : Basis) (c : h .fits ≡ true) where
-  settlement-number : settlement h .refusal ≡ hourRefusal (h .hour) secondsOfHour
-  unfolding settlement
-  settlement-number = rw c (refusal-is (h .hour) secondsOfHour)
+  settlement-number : settlement h .refusal ≡ refusalBy (h .asked) (h .state) (h .hour) secondsOfHour
+  unfolding ended
+  settlement-number = rw c (number-by (h .asked) (h .state) (h .hour) secondsOfHour)
 
-  refused-fits : (settlement h .refusal ≡ 0 → ⊥) → settlement h ≡ refusedHour (settlement h .refusal)
-  unfolding settlement
-  refused-fits f = rw (settlement-number, c) (hour-refused (h .hour) secondsOfHour (λ z. f (settlement-number ∙ z)))
+  refused-fits : (settlement h .refusal ≡ 0 → ⊥) → ended h ≡ refusedSReg (settlement h .refusal)
+  unfolding ended
+  refused-fits f = rw (settlement-number, c) (refused-by (h .asked) (h .state) (h .hour) secondsOfHour (λ z. f (settlement-number ∙ z)))
 
--- a refused hour has zeros beside its number
-pub refused-is : (h : Basis) → (settlement h .refusal ≡ 0 → ⊥) → settlement h ≡ refusedHour (settlement h .refusal)
-unfolding settlement refusedHour
+-- a refused hour has zeros beside its number, and `Outside`
+pub refused-is : (h : Basis) → (settlement h .refusal ≡ 0 → ⊥) → ended h ≡ refusedSReg (settlement h .refusal)
+unfolding ended refusedHour
 refused-is h f = by-test (h .fits) (λ (t : h .fits ≡ true). refused-fits h t f) (λ (t : h .fits ≡ false). rw t)
 
 -- ---- more pairs than bands may be: the hour is refused with the same number, however many of them are read
@@ -50,139 +142,165 @@ refused-is h f = by-test (h .fits) (λ (t : h .fits ≡ true). refused-fits h t 
 unfit : (t g : List ℤ) → mostBands < length t → bandsFit t g ≡ false
 unfit t g h = by-test (bandsFit t g) (λ (e : bandsFit t g ≡ true). absurd (omega (arith, bands-fit t g e .few))) (λ (e : bandsFit t g ≡ false). e)
 
-module _ (powers frequencies : List ℤ) (terms : Terms) (service : Service) (earlier : List ℕ) (t g u v : List ℤ) (many : mostBands < length t) (also : mostBands < length u) (places : ℕ) where
-  abbrev one : WholeHour
-  one = hourFrom powers frequencies terms service t g earlier
+module _ (a : words.Hour) (s : EventState) (powers frequencies : List ℤ) (terms : Terms) (shift : Shift) (earlier : List ℕ) where
+  abbrev banded : List ℤ → List ℤ → WholeHour
+  banded t g = hourFrom powers frequencies terms (serviceOf a shift) t g earlier
 
-  abbrev other : WholeHour
-  other = hourFrom powers frequencies terms service u v earlier
+  module _ (t g u v : List ℤ) (many : mostBands < length t) (also : mostBands < length u) (places : ℕ) where
+    refusal-same : refusalBy a s (banded t g) places ≡ refusalBy a s (banded u v) places
+    refusal-same = unfit-same a s shift powers frequencies terms earlier t g u v places (unfit t g many) (unfit u v also)
 
-  refusal-same : hourRefusal one places ≡ hourRefusal other places
-  unfolding hourRefusal
-  refusal-same = rw (unfit t g many, unfit u v also)
+    refused : refusalBy a s (banded t g) places ≡ 0 → ⊥
+    refused z = clash (sym (unfit t g many) ∙ bands-by a s (banded t g) places z)
 
-  refused : hourRefusal one places ≡ 0 → ⊥
-  refused z = clash (sym (unfit t g many) ∙ fit one places z .bands)
-
-  answer-same : hourAnswer one places ≡ hourAnswer other places
-  answer-same = hour-refused one places refused ∙ ap refusedHour refusal-same ∙ sym (hour-refused other places (λ z. refused (refusal-same ∙ z)))
+    answer-same : endedBy a s (banded t g) places ≡ endedBy a s (banded u v) places
+    answer-same = refused-by a s (banded t g) places refused ∙ ap refusedSReg refusal-same ∙ sym (refused-by a s (banded u v) places (λ z. refused (refusal-same ∙ z)))
 
 -- ---- an hour from its parts, by the first 100 pairs and by all of them
 
-module _ (powers frequencies : List ℤ) (terms : Terms) (service : Service) (bands : List ℤ) (earlier : List ℕ) where
+module _ (a : words.Hour) (s : EventState) (powers frequencies : List ℤ) (terms : Terms) (shift : Shift) (bands : List ℤ) (earlier : List ℕ) where
   abbrev by : ℕ → WholeHour
-  by n = hourFrom powers frequencies terms service (column bands 0 n) (column bands 1 n) earlier
+  by n = hourFrom powers frequencies terms (serviceOf a shift) (column bands 0 n) (column bands 1 n) earlier
 
   abbrev all : ℕ
   all = length bands / 2
 
-  pub pairs-answer : (places : ℕ) → hourAnswer (by (pairsIn (length bands))) places ≡ hourAnswer (by all) places
+  -- the same number, of more pairs than bands may be
+  pairs-number : (leb all 100 ≡ false) → (places : ℕ) → refusalBy a s (by (min all 100)) places ≡ refusalBy a s (by all) places
+  pairs-number t places =
+      let h = leb-false all 100 t in
+      refusal-same a s powers frequencies terms shift earlier _ _ _ _ (omega (arith, length-column bands 0 (min all 100))) (omega (arith, length-column bands 0 all)) places
+
+  pub pairs-answer : (places : ℕ) → endedBy a s (by (pairsIn (length bands))) places ≡ endedBy a s (by all) places
   unfolding pairsIn
   pairs-answer places =
       by-test (leb all 100)
       (λ (t : leb all 100 ≡ true). let h = leb-true all 100 t in let e : min all 100 ≡ all = omega arith in rw e)
       (λ (t : leb all 100 ≡ false). let h = leb-false all 100 t in
-      answer-same powers frequencies terms service earlier _ _ _ _ (omega (arith, length-column bands 0 (min all 100))) (omega (arith, length-column bands 0 all)) places)
+      answer-same a s powers frequencies terms shift earlier _ _ _ _ (omega (arith, length-column bands 0 (min all 100))) (omega (arith, length-column bands 0 all)) places)
 
-  pub pairs-left : (run : List ℕ) → scoresLeft (by (pairsIn (length bands))) run ≡ scoresLeft (by all) run
-  unfolding pairsIn scoresLeft scoresOf
+  pub pairs-left : (run : List ℕ) → leftBy a s (by (pairsIn (length bands))) run ≡ leftBy a s (by all) run
+  unfolding pairsIn
   pairs-left run =
       by-test (leb all 100)
       (λ (t : leb all 100 ≡ true). let h = leb-true all 100 t in let e : min all 100 ≡ all = omega arith in rw e)
-      (λ (t : leb all 100 ≡ false). let h = leb-false all 100 t in
-      let k = refusal-same powers frequencies terms service earlier (column bands 0 (min all 100)) (column bands 1 (min all 100)) (column bands 0 all) (column bands 1 all) (omega (arith, length-column bands 0 (min all 100))) (omega (arith, length-column bands 0 all)) (length run) in
-      rw k)
+      (λ (t : leb all 100 ≡ false).
+      left-by a s (by (min all 100)) run
+      ∙ (λ i. kept (pairs-number t (length run) i) (scores-same a s shift powers frequencies terms earlier (column bands 0 (min all 100)) (column bands 1 (min all 100)) (column bands 0 all) (column bands 1 all) i) run)
+      ∙ sym (left-by a s (by all) run))
 
 -- ---- more earlier scores than an hour takes: it is refused with 1, so that the first four stand for all
 
-module _ (h : WholeHour) (many : earlierScores < length (h .earlier)) where
-  many-refusal : (places : ℕ) → hourRefusal h places ≡ wrongLength
-  unfolding hourRefusal
-  many-refusal places = rw (more-unfit (length (h .earlier)) many, and-false (secondsFit (length (h .powers)) (length (h .frequencies)) places))
+module _ (a : words.Hour) (s : EventState) (h : WholeHour) (many : earlierScores < length (h .earlier)) where
+  many-answer : (places : ℕ) → endedBy a s h places ≡ refusedSReg wrongLength
+  many-answer places = let e = many-by a s h places many in refused-by a s h places (λ z. absurd (omega (arith, e, z))) ∙ ap refusedSReg e
 
-  many-answer : (places : ℕ) → hourAnswer h places ≡ refusedHour wrongLength
-  unfolding hourAnswer
-  many-answer places = rw (many-refusal places)
+  many-left : (run : List ℕ) → leftBy a s h run ≡ run
+  many-left run = let e = many-by a s h (length run) many in left-by a s h run ∙ kept-old {k = refusalBy a s h (length run)} _ _ (λ z. absurd (omega (arith, e, z)))
 
-  many-left : (run : List ℕ) → scoresLeft h run ≡ run
-  unfolding scoresLeft
-  many-left run = rw (many-refusal (length run))
-
-module _ (hour : List ℕ → WholeHour) (same : (l : List ℕ) → hour l .earlier ≡ l) (n : List ℤ) where
+module _ (a : words.Hour) (s : EventState) (hour : List ℕ → WholeHour) (same : (l : List ℕ) → hour l .earlier ≡ l) (n : List ℤ) where
   abbrev over : (l : List ℕ) → earlierScores < length l → earlierScores < length (hour l .earlier)
   over l h = rw (same l) h
 
-  pub four-answer : (places : ℕ) → hourAnswer (hour (taken (firstFour n))) places ≡ hourAnswer (hour (scoresIn n)) places
+  pub four-answer : (places : ℕ) → endedBy a s (hour (taken (firstFour n))) places ≡ endedBy a s (hour (scoresIn n)) places
   four-answer places =
-      four-same (λ (l : List ℕ). hourAnswer (hour l) places) (λ a b h k. many-answer (hour a) (over a h) places ∙ sym (many-answer (hour b) (over b k) places)) n
+      four-same (λ (l : List ℕ). endedBy a s (hour l) places) (λ l m h k. many-answer a s (hour l) (over l h) places ∙ sym (many-answer a s (hour m) (over m k) places)) n
 
-  pub four-left : (run : List ℕ) → scoresLeft (hour (taken (firstFour n))) run ≡ scoresLeft (hour (scoresIn n)) run
-  four-left run = four-same (λ (l : List ℕ). scoresLeft (hour l) run) (λ a b h k. many-left (hour a) (over a h) run ∙ sym (many-left (hour b) (over b k) run)) n
+  pub four-left : (run : List ℕ) → leftBy a s (hour (taken (firstFour n))) run ≡ leftBy a s (hour (scoresIn n)) run
+  four-left run = four-same (λ (l : List ℕ). leftBy a s (hour l) run) (λ l m h k. many-left a s (hour l) (over l h) run ∙ sym (many-left a s (hour m) (over m k) run)) n
 
 -- ---- and so the whole hour
 
-module _ (terms : Terms) (service : Service) (bands earlier readings powers frequencies : List ℤ) (before : Earlier) (run : List ℕ) (p : powers ≡ column readings 0 secondsOfHour)
+module _ (a : words.Hour) (terms : Terms) (shift : Shift) (s : EventState) (bands earlier readings powers frequencies : List ℤ) (before : Earlier) (run : List ℕ) (p : powers ≡ column readings 0 secondsOfHour)
     (f : frequencies ≡ column readings 1 secondsOfHour) (e : before ≡ firstFour earlier) (lent : length run ≡ secondsOfHour) (counts : countsFit (length bands) true (length readings) ≡ true) where
   abbrev parts : List ℕ → WholeHour
-  parts l = by powers frequencies terms service bands l (pairsIn (length bands))
+  parts l = by a s powers frequencies terms shift bands l (pairsIn (length bands))
 
-  pub settlement-is : hourAnswer (parts (taken before)) (length run) ≡ settlement (hourBy terms service bands true earlier readings)
-  unfolding hourBy settlement
-  settlement-is =
-      ap (λ (x : Earlier). hourAnswer (parts (taken x)) (length run)) e
-      ∙ four-answer parts (λ l. refl) earlier (length run)
-      ∙ pairs-answer powers frequencies terms service bands (scoresIn earlier) (length run)
+  pub ended-is : endedBy a s (parts (taken before)) (length run) ≡ ended (hourBy a terms shift s bands true earlier readings)
+  unfolding hourBy ended
+  ended-is =
+      ap (λ (x : Earlier). endedBy a s (parts (taken x)) (length run)) e
+      ∙ four-answer a s parts (λ l. refl) earlier (length run)
+      ∙ pairs-answer a s powers frequencies terms shift bands (scoresIn earlier) (length run)
       ∙ rw (p, f, lent, counts)
 
-  pub left-is : scoresLeft (parts (taken before)) run ≡ scoresAfter (hourBy terms service bands true earlier readings) run
-  unfolding hourBy scoresAfter scoresLeft
+  pub left-is : leftBy a s (parts (taken before)) run ≡ scoresAfter (hourBy a terms shift s bands true earlier readings) run
+  unfolding hourBy scoresAfter
   left-is =
-      ap (λ (x : Earlier). scoresLeft (parts (taken x)) run) e
-      ∙ four-left parts (λ l. refl) earlier run
-      ∙ pairs-left powers frequencies terms service bands (scoresIn earlier) run
-      ∙ rw (p, f, lent, settlement-number (hourBy terms service bands true earlier readings) counts)
+      ap (λ (x : Earlier). leftBy a s (parts (taken x)) run) e
+      ∙ four-left a s parts (λ l. refl) earlier run
+      ∙ pairs-left a s powers frequencies terms shift bands (scoresIn earlier) run
+      ∙ left-by a s _ run
+      ∙ rw (p, f, lent, settlement-number (hourBy a terms shift s bands true earlier readings) counts)
 
 -- ---- an hour whose numbers are as many as there are to be has its earlier scores counted; and one whose numbers are not as many
 
 pub is-counted : (bands readings : ℕ) (counted : Bool) → countsFit bands counted readings ≡ true → counted ≡ true
 is-counted bands readings counted e = and-both (eqb (bands % 2) 0) counted (and-both (eqb (bands % 2) 0 && counted) (eqb readings (2 * secondsOfHour)) e .0) .1
 
-module _ (terms : Terms) (service : Service) (bands : List ℤ) (counted : Bool) (earlier readings : List ℤ) (counts : countsFit (length bands) counted (length readings) ≡ false) where
-  pub settlement-none : refusedHour wrongLength ≡ settlement (hourBy terms service bands counted earlier readings)
-  unfolding hourBy settlement
-  settlement-none = rw counts
+module _ (a : words.Hour) (terms : Terms) (shift : Shift) (s : EventState) (bands : List ℤ) (counted : Bool) (earlier readings : List ℤ) (counts : countsFit (length bands) counted (length readings) ≡ false) where
+  pub ended-none : refusedSReg wrongLength ≡ ended (hourBy a terms shift s bands counted earlier readings)
+  unfolding hourBy ended
+  ended-none = rw counts
 
-  pub left-none : (run : List ℕ) → run ≡ scoresAfter (hourBy terms service bands counted earlier readings) run
-  unfolding hourBy settlement scoresAfter refusedHour
+  pub left-none : (run : List ℕ) → run ≡ scoresAfter (hourBy a terms shift s bands counted earlier readings) run
+  unfolding hourBy ended scoresAfter refusedHour
   left-none run = rw counts
 
 not-none : (h : Basis) → h .fits ≡ false → settlement h .refusal ≡ 0 → ⊥
-unfolding settlement refusedHour
+unfolding ended refusedHour
 not-none h t z = let e : wrongLength ≡ 0 = rw t at z in omega arith
 
 -- an hour that is not refused has a score for each second
-pub scores-all : (h : Basis) → settlement h .refusal ≡ 0 → length (scoresOf (h .hour)) ≡ secondsOfHour
+pub scores-all : (h : Basis) → settlement h .refusal ≡ 0 → length (scoresIs h) ≡ secondsOfHour
 scores-all h z =
-    by-test (h .fits) (λ (t : h .fits ≡ true). scores-long (h .hour) secondsOfHour (sym (settlement-number h t) ∙ z)) (λ (t : h .fits ≡ false). absurd (not-none h t z))
+    by-test (h .fits) (λ (t : h .fits ≡ true). long-by (h .asked) (h .state) (h .hour) secondsOfHour (sym (settlement-number h t) ∙ z)) (λ (t : h .fits ≡ false). absurd (not-none h t z))
 
 pub left-long : (h : Basis) (run : List ℕ) → length run ≡ secondsOfHour → length (scoresAfter h run) ≡ secondsOfHour
 unfolding scoresAfter
 left-long h run l = kept-any (λ (s : List ℕ). length s ≡ secondsOfHour) (settlement h .refusal) (scores-all h) l
 
--- what is shown of the run that an hour leaves: its scores, or nothing beside a refusal
-pub scores-shown : (h : Basis) (k : ℕ) (scores run : List ℕ) → k ≡ settlement h .refusal → scores ≡ scoresAfter h run
-    → kept k (map pos scores) [] ≡ kept (settlement h .refusal) (map pos (scoresOf (h .hour))) []
-unfolding scoresAfter
-scores-shown h k scores run e l =
-    let m = settlement h .refusal in
-    rw (e, l) (by-test (eqb m 0) (λ (t : eqb m 0 ≡ true). rw t) (λ (t : eqb m 0 ≡ false). rw t))
-
--- a score is at most 100
-pub score-small : (h : WholeHour) (i : ℕ) → runScoreAt (h .powers) (h .frequencies) (transfersOf (h .service)) (h .terms .capacity) i ≤ 100
-unfolding runScoreAt
-score-small h i = score-within _ _ _ _
-
 -- an answer has at most twelve fields
+few-by : (hour : words.Hour) (a : Settled) → length (hourShown hour a .fields) ≤ 12
+few-by Dreg a = omega arith
+few-by Edreg a = omega arith
+few-by Sreg a = with-state (a .hour) (a .state)
+  where
+    with-state : (h : Settlement) (s : EventState) → length (hourShown Sreg (record { hour = h; state = s }) .fields) ≤ 12
+    with-state h Outside = omega arith
+    with-state h (Responding start scored) = omega arith
+    with-state h (Holding start) = omega arith
+    with-state h (Recovering left) = omega arith
+
 pub hour-few : (hour : words.Hour) (n : HourNumbers) → length (hourReply hour n .fields) ≤ 12
 unfolding hourReply
-hour-few hour n = omega arith
+hour-few hour n = few-by hour (ended (hourAsked hour n))
+
+-- ---- an answer's fields, as an array of twelve has them
+
+-- an hour that takes no state answers none
+abbrev pub Stateless : words.Hour → EventState → Type 0
+Stateless Dreg s = s ≡ Outside
+Stateless Edreg s = s ≡ Outside
+Stateless Sreg s = Unit {0}
+
+no-state : (fits : Bool) (h : Settlement) (k : ℕ) → pick fits (bare h) (refusedSReg k) .state ≡ Outside
+no-state true h k = refl
+no-state false h k = refl
+
+pub stateless : (hour : words.Hour) (n : HourNumbers) → Stateless hour (ended (hourAsked hour n) .state)
+unfolding hourBy ended
+stateless Dreg n = let h = hourAsked Dreg n in no-state (h .fits) (hourAnswer (h .hour) secondsOfHour) wrongLength
+stateless Edreg n = let h = hourAsked Edreg n in no-state (h .fits) (hourAnswer (h .hour) secondsOfHour) wrongLength
+stateless Sreg n = tt
+
+pub twelve-is : (hour : words.Hour) (a : Settled) → Stateless hour (a .state) → inTwelve hour (a .hour) (stateFields (a .state)) ≡ boxed (hourShown hour a)
+twelve-is Dreg a none = rw none
+twelve-is Edreg a none = rw none
+twelve-is Sreg a none = by-state (a .hour) (a .state)
+  where
+    by-state : (h : Settlement) (s : EventState) → inTwelve Sreg h (stateFields s) ≡ boxed (hourShown Sreg (record { hour = h; state = s }))
+    by-state h Outside = refl
+    by-state h (Responding start scored) = refl
+    by-state h (Holding start) = refl
+    by-state h (Recovering left) = refl

@@ -1,27 +1,29 @@
-// The questions about a whole hour: its terms, its bands as pairs, its earlier scores, and its readings as pairs.
+// The questions about a whole hour: its terms, its bands as pairs, its earlier scores, for sReg a state, and its
+// readings as pairs.
 ghost use Prim.Native.Nat.{_≤_};
 ghost use mathlib.Core.Bool.{true};
 ghost use mathlib.Core.Path.{_≡_};
-ghost use lib.ListN.{length};
-ghost use Rattle.hour.specs.Hour.{hourAnswer, scoresLeft};
+ghost use lib.ListN.{length, drop};
 ghost use Rattle.numbers.specs.Numbers.{column};
 ghost use Rattle.numbers.specs.Inner.{taken};
 ghost use Rattle.words.specs.Inner.{boxed};
-ghost use Rattle.hours.specs.Hours.{hourNumbers, termsOf, shiftOf, serviceOf, hourFrom, countsFit, hourBy, hourAsked, settlement, scoresAfter, hourReply};
-ghost use Rattle.hours.specs.Inner.{pairsIn};
+ghost use Rattle.hours.specs.Hours.{hourNumbers, termsOf, shiftOf, serviceOf, hourFrom, countsFit, stateNumbers, equals, stateTold, stateHanded, stateFields, endedBy, leftBy, hourBy, hourAsked, ended, settlement, scoresAfter, hourReply};
+ghost use Rattle.hours.specs.Inner.{pairsIn, fieldsShown, inTwelve};
 use hour::Settlement;
 use hour::Shift;
 use hour::Terms;
 use numbers::Earlier;
+use sreg::EventState;
+use sreg_hour::Settled;
 use units::Kilowatts;
 use units::limits;
 use units::refusals;
 use words::Few;
 use words::Hour;
 
-// Settles the hour that a question asks about, by its terms, its bands, its earlier scores and its readings; its scores
-// go into the lent run. A number without its other among the bands, earlier scores that are not counted, and readings
-// that are not two for each second, are refused with 1.
+// Settles the hour that a question asks about, by its terms, its bands, its earlier scores and its readings, those of
+// sReg after a state's three numbers; its scores go into the lent run. A number without its other among the bands,
+// earlier scores that are not counted, and readings that are not two for each second, are refused with 1.
 pub fn settle(
     hour: Hour,
     terms: [i64; 12],
@@ -34,18 +36,8 @@ pub fn settle(
     ensures answers { λ r. ⌜ r ≡ settlement (hourAsked hour (hourNumbers terms (now (bands .entry)) counted (now (earlier .entry)) (now (readings .entry)))) ⌝ }
     ensures leaves { λ r. ⌜ now (scores .exit) ≡ scoresAfter (hourAsked hour (hourNumbers terms (now (bands .entry)) counted (now (earlier .entry)) (now (readings .entry)))) (now (scores .entry)) ⌝ }
 {
-    if !counts_fit(bands.len(), counted, readings.len()) {
-        return hour::refused_hour(refusals::WRONG_LENGTH);
-    }
-    settle_by(
-        hour,
-        terms_of(terms),
-        shift_of(terms),
-        bands,
-        earlier,
-        readings,
-        scores,
-    )
+    let settled = settle_asked(hour, terms, bands, counted, earlier, readings, scores);
+    settled.hour
 }
 
 // THE FAMILY: the answer to a question about a whole hour.
@@ -60,7 +52,16 @@ pub fn answer(
     ensures { λ r. ⌜ r ≡ boxed (hourReply hour (hourNumbers terms (now (bands .entry)) counted (now (earlier .entry)) (now (readings .entry)))) ⌝ }
 {
     let mut scores = [0u8; limits::SECONDS];
-    let settled = settle(hour, terms, bands, counted, earlier, readings, &mut scores);
+    let asked = settle_asked(hour, terms, bands, counted, earlier, readings, &mut scores);
+    let settled = asked.hour;
+    let after = asked.state;
+    shown(hour, settled, state_fields(after))
+}
+
+// The fields of an answer: the settlement's, and for sReg the state's.
+fn shown(hour: Hour, settled: Settlement, state: [i64; 3]) -> Few
+    ensures { λ r. ⌜ r ≡ inTwelve hour settled state ⌝ }
+{
     let capacity = settled.capacity;
     let performance = settled.performance;
     let quality = settled.quality;
@@ -68,7 +69,7 @@ pub fn answer(
     let amount = settled.amount;
     Few {
         refusal: settled.refusal,
-        count: 7,
+        count: fields_shown(hour),
         values: [
             settled.rate as i64,
             settled.factor,
@@ -77,12 +78,134 @@ pub fn answer(
             quality.0,
             energy.0,
             amount.0,
-            0,
-            0,
-            0,
+            state[0],
+            state[1],
+            state[2],
             0,
             0,
         ],
+    }
+}
+
+// The settlement, and the state that an sReg hour ends in.
+fn settle_asked(
+    hour: Hour,
+    terms: [i64; 12],
+    bands: &[i64],
+    counted: bool,
+    earlier: &[i64],
+    readings: &[i64],
+    scores: &mut [u8; limits::SECONDS],
+) -> Settled
+    ensures answers { λ r. ⌜ r ≡ ended (hourAsked hour (hourNumbers terms (now (bands .entry)) counted (now (earlier .entry)) (now (readings .entry)))) ⌝ }
+    ensures leaves { λ r. ⌜ now (scores .exit) ≡ scoresAfter (hourAsked hour (hourNumbers terms (now (bands .entry)) counted (now (earlier .entry)) (now (readings .entry)))) (now (scores .entry)) ⌝ }
+{
+    let seconds = seconds_in(hour, readings);
+    if !counts_fit(bands.len(), counted, seconds.len()) {
+        return sreg_hour::refused(refusals::WRONG_LENGTH);
+    }
+    settle_by(
+        hour,
+        terms_of(terms),
+        shift_of(terms),
+        state_in(hour, readings),
+        bands,
+        earlier,
+        seconds,
+        scores,
+    )
+}
+
+// How many of a question's last numbers are a state's.
+fn state_numbers(hour: Hour) -> usize
+    ensures is { λ r. ⌜ r ≡ stateNumbers hour ⌝ }
+    ensures most { λ r. ⌜ r ≤ 3 ⌝ }
+{
+    match hour {
+        Hour::Dreg => 0,
+        Hour::Edreg => 0,
+        Hour::Sreg => 3,
+    }
+}
+
+// The readings after them.
+fn seconds_in(hour: Hour, readings: &[i64]) -> &[i64]
+    ensures { λ r. ⌜ now r ≡ drop (stateNumbers hour) (now (readings .entry)) ⌝ }
+{
+    let n = state_numbers(hour);
+    if n <= readings.len() {
+        return &readings[n..];
+    }
+    &readings[..0]
+}
+
+// The state that an sReg hour is handed; `Outside` for the others, which take none.
+fn state_in(hour: Hour, readings: &[i64]) -> EventState
+    ensures { λ r. ⌜ r ≡ stateHanded hour (now (readings .entry)) ⌝ }
+{
+    match hour {
+        Hour::Dreg => EventState::Outside,
+        Hour::Edreg => EventState::Outside,
+        Hour::Sreg => state_told(
+            whole::at(readings, 0),
+            whole::at(readings, 1),
+            whole::at(readings, 2),
+        ),
+    }
+}
+
+// The state of a kind, with its power and its count. Another kind, and a number that the kind does not use and is not
+// 0, make one that no hour ends in.
+fn state_told(kind: i64, power: i64, count: i64) -> EventState
+    ensures { λ r. ⌜ r ≡ stateTold kind power count ⌝ }
+{
+    let n = numbers::byte_of(count);
+    if equals(kind, 0) & equals(power, 0) & equals(count, 0) {
+        return EventState::Outside;
+    }
+    if equals(kind, 1) {
+        return EventState::Responding {
+            start: Kilowatts(power),
+            scored: n,
+        };
+    }
+    if equals(kind, 2) & equals(count, 0) {
+        return EventState::Holding {
+            start: Kilowatts(power),
+        };
+    }
+    if equals(kind, 3) & equals(power, 0) {
+        return EventState::Recovering { left: n };
+    }
+    EventState::Recovering { left: 0 }
+}
+
+fn equals(z: i64, n: i64) -> bool
+    ensures { λ r. ⌜ r ≡ equals z n ⌝ }
+{
+    whole::within(z, n, n)
+}
+
+// A state as its kind, its power and its count.
+fn state_fields(state: EventState) -> [i64; 3]
+    ensures { λ r. ⌜ r ≡ stateFields state ⌝ }
+{
+    match state {
+        EventState::Outside => [0, 0, 0],
+        EventState::Responding { start, scored } => [1, start.0, scored as i64],
+        EventState::Holding { start } => [2, start.0, 0],
+        EventState::Recovering { left } => [3, 0, left as i64],
+    }
+}
+
+// How many fields an answer has.
+fn fields_shown(hour: Hour) -> usize
+    ensures { λ r. ⌜ r ≡ fieldsShown hour ⌝ }
+{
+    match hour {
+        Hour::Dreg => 7,
+        Hour::Edreg => 7,
+        Hour::Sreg => 10,
     }
 }
 
@@ -97,14 +220,15 @@ fn settle_by(
     hour: Hour,
     terms: Terms,
     shift: Shift,
+    state: EventState,
     bands: &[i64],
     earlier: &[i64],
     readings: &[i64],
     scores: &mut [u8; limits::SECONDS],
-) -> Settlement
+) -> Settled
     requires { ⌜ countsFit (length (now bands)) true (length (now readings)) ≡ true ⌝ }
-    ensures answers { λ r. ⌜ r ≡ settlement (hourBy terms (serviceOf hour shift) (now (bands .entry)) true (now (earlier .entry)) (now (readings .entry))) ⌝ }
-    ensures leaves { λ r. ⌜ now (scores .exit) ≡ scoresAfter (hourBy terms (serviceOf hour shift) (now (bands .entry)) true (now (earlier .entry)) (now (readings .entry))) (now (scores .entry)) ⌝ }
+    ensures answers { λ r. ⌜ r ≡ ended (hourBy hour terms shift state (now (bands .entry)) true (now (earlier .entry)) (now (readings .entry))) ⌝ }
+    ensures leaves { λ r. ⌜ now (scores .exit) ≡ scoresAfter (hourBy hour terms shift state (now (bands .entry)) true (now (earlier .entry)) (now (readings .entry))) (now (scores .entry)) ⌝ }
 {
     let mut powers = [0i64; limits::SECONDS];
     let mut frequencies = [0i64; limits::SECONDS];
@@ -115,6 +239,7 @@ fn settle_by(
         hour,
         terms,
         shift,
+        state,
         bands,
         before,
         &powers,
@@ -128,15 +253,16 @@ fn settle_bands(
     hour: Hour,
     terms: Terms,
     shift: Shift,
+    state: EventState,
     bands: &[i64],
     before: Earlier,
     powers: &[i64],
     frequencies: &[i64],
     scores: &mut [u8],
-) -> Settlement
+) -> Settled
     requires { ⌜ before .count ≤ length (before .scores) ⌝ }
-    ensures answers { λ r. ⌜ r ≡ hourAnswer (hourFrom (now (powers .entry)) (now (frequencies .entry)) terms (serviceOf hour shift) (column (now (bands .entry)) 0 (pairsIn (length (now (bands .entry))))) (column (now (bands .entry)) 1 (pairsIn (length (now (bands .entry))))) (taken before)) (length (now (scores .entry))) ⌝ }
-    ensures leaves { λ r. ⌜ now (scores .exit) ≡ scoresLeft (hourFrom (now (powers .entry)) (now (frequencies .entry)) terms (serviceOf hour shift) (column (now (bands .entry)) 0 (pairsIn (length (now (bands .entry))))) (column (now (bands .entry)) 1 (pairsIn (length (now (bands .entry))))) (taken before)) (now (scores .entry)) ⌝ }
+    ensures answers { λ r. ⌜ r ≡ endedBy hour state (hourFrom (now (powers .entry)) (now (frequencies .entry)) terms (serviceOf hour shift) (column (now (bands .entry)) 0 (pairsIn (length (now (bands .entry))))) (column (now (bands .entry)) 1 (pairsIn (length (now (bands .entry))))) (taken before)) (length (now (scores .entry))) ⌝ }
+    ensures leaves { λ r. ⌜ now (scores .exit) ≡ leftBy hour state (hourFrom (now (powers .entry)) (now (frequencies .entry)) terms (serviceOf hour shift) (column (now (bands .entry)) 0 (pairsIn (length (now (bands .entry))))) (column (now (bands .entry)) 1 (pairsIn (length (now (bands .entry))))) (taken before)) (now (scores .entry)) ⌝ }
 {
     let mut thresholds = [0i64; 100];
     let mut factors = [0i64; 100];
@@ -151,6 +277,7 @@ fn settle_bands(
         frequencies,
         terms,
         shift,
+        state,
         &thresholds[..n],
         &factors[..n],
         &earlier[..count],
@@ -167,39 +294,56 @@ fn pairs_in(numbers: usize) -> usize
     if 100 < n { 100 } else { n }
 }
 
-// Settles an hour of either kind; what is shifted is read for E-dReg alone.
+// Settles an hour of any kind; what is shifted is read for E-dReg alone, the state for sReg alone.
 fn settle_kind(
     hour: Hour,
     powers: &[i64],
     frequencies: &[i64],
     terms: Terms,
     shift: Shift,
+    state: EventState,
     thresholds: &[i64],
     factors: &[i64],
     earlier: &[u8],
     scores: &mut [u8],
-) -> Settlement
-    ensures answers { λ r. ⌜ r ≡ hourAnswer (hourFrom (now (powers .entry)) (now (frequencies .entry)) terms (serviceOf hour shift) (now (thresholds .entry)) (now (factors .entry)) (now (earlier .entry))) (length (now (scores .entry))) ⌝ }
-    ensures leaves { λ r. ⌜ now (scores .exit) ≡ scoresLeft (hourFrom (now (powers .entry)) (now (frequencies .entry)) terms (serviceOf hour shift) (now (thresholds .entry)) (now (factors .entry)) (now (earlier .entry))) (now (scores .entry)) ⌝ }
+) -> Settled
+    ensures answers { λ r. ⌜ r ≡ endedBy hour state (hourFrom (now (powers .entry)) (now (frequencies .entry)) terms (serviceOf hour shift) (now (thresholds .entry)) (now (factors .entry)) (now (earlier .entry))) (length (now (scores .entry))) ⌝ }
+    ensures leaves { λ r. ⌜ now (scores .exit) ≡ leftBy hour state (hourFrom (now (powers .entry)) (now (frequencies .entry)) terms (serviceOf hour shift) (now (thresholds .entry)) (now (factors .entry)) (now (earlier .entry))) (now (scores .entry)) ⌝ }
 {
     match hour {
-        Hour::Dreg => hour::dreg_hour(
+        Hour::Dreg => Settled {
+            hour: hour::dreg_hour(
+                powers,
+                frequencies,
+                terms,
+                thresholds,
+                factors,
+                earlier,
+                scores,
+            ),
+            state: EventState::Outside,
+        },
+        Hour::Edreg => Settled {
+            hour: hour::hour(
+                powers,
+                frequencies,
+                terms,
+                shift,
+                thresholds,
+                factors,
+                earlier,
+                scores,
+            ),
+            state: EventState::Outside,
+        },
+        Hour::Sreg => sreg_hour::sreg_hour(
             powers,
             frequencies,
             terms,
             thresholds,
             factors,
             earlier,
-            scores,
-        ),
-        Hour::Edreg => hour::hour(
-            powers,
-            frequencies,
-            terms,
-            shift,
-            thresholds,
-            factors,
-            earlier,
+            state,
             scores,
         ),
     }

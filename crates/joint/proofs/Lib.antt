@@ -2,5 +2,6 @@
 pub mod SameNumbers
 pub mod Demand
 pub mod Earlier
+pub mod SReg
 mod Determined
 mod RefusedKeeps

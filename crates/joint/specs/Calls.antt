@@ -7,6 +7,8 @@ use Rattle.month.specs.declared.Month.{Month}
 use Rattle.hour.specs.Hour.{WholeHour, eDRegHour}
 use Rattle.hour.specs.declared.Terms.{Terms}
 use Rattle.hour.specs.declared.Shift.{Shift}
+use Rattle.sreg.specs.declared.EventState.{EventState}
+use Rattle.sreg_hour.specs.Hour.{SRegHour, sRegHour}
 
 -- the arguments in their order: powers, frequencies, terms, shift, thresholds, factors and earlier scores; month, day and hour
 abbrev pub JointGiven : Type 0
@@ -24,3 +26,19 @@ dayGiven b = b .1 .1 .1 .1 .1 .1 .1 .1 .0
 
 abbrev pub hourGiven : JointGiven → ℕ
 hourGiven b = b .1 .1 .1 .1 .1 .1 .1 .1 .1 .0
+
+-- `sreg_joint`: powers, frequencies, terms, thresholds, factors, earlier scores and state; month, day and hour
+abbrev pub SRegJointGiven : Type 0
+SRegJointGiven = RefT (List ℤ) × (RefT (List ℤ) × (Terms × (RefT (List ℤ) × (RefT (List ℤ) × (RefT (List ℕ) × (EventState × (Month × (ℕ × (ℕ × Unit {0})))))))))
+
+abbrev pub sRegGiven : SRegJointGiven → SRegHour
+sRegGiven b = sRegHour (now (b .0)) (now (b .1 .0)) (b .1 .1 .0) (now (b .1 .1 .1 .0)) (now (b .1 .1 .1 .1 .0)) (now (b .1 .1 .1 .1 .1 .0)) (b .1 .1 .1 .1 .1 .1 .0)
+
+abbrev pub sRegMonth : SRegJointGiven → Month
+sRegMonth b = b .1 .1 .1 .1 .1 .1 .1 .0
+
+abbrev pub sRegDay : SRegJointGiven → ℕ
+sRegDay b = b .1 .1 .1 .1 .1 .1 .1 .1 .0
+
+abbrev pub sRegAt : SRegJointGiven → ℕ
+sRegAt b = b .1 .1 .1 .1 .1 .1 .1 .1 .1 .0

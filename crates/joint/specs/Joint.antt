@@ -13,7 +13,12 @@ use Rattle.month.specs.Month.{monthAnswer}
 use Rattle.month.specs.declared.Month.{Month}
 use Rattle.hour.specs.Hour.{WholeHour, hourAnswer, refusedHour}
 use Rattle.hour.specs.declared.Settlement.{Settlement}
+use Rattle.sreg.specs.declared.EventState.{EventState}
+use Rattle.sreg.specs.declared.EventState.the-variants.{Outside}
+use Rattle.sreg_hour.specs.Hour.{SRegHour, sRegAnswer}
+use Rattle.sreg_hour.specs.declared.Settled.{Settled}
 use Rattle.joint.specs.declared.Joined.{Joined}
+use Rattle.joint.specs.declared.StateJoined.{StateJoined}
 
 -- a refusal has its number alone, beside the ledger that was handed in
 abbrev pub refusedBeside : Month → ℕ → Joined
@@ -43,6 +48,16 @@ workedBy h = hourAnswer h secondsOfHour
 
 unfoldable pub jointOf : WholeHour → Month → ℕ → ℕ → Joined
 jointOf h month day hour = postedOf (workedBy h) month day hour
+
+-- of an sReg hour (document 02, #103): the state that it ends in, `Outside` beside any refusal, "the ledger's included"
+unfoldable pub besideState : Joined → EventState → StateJoined
+besideState joined after = record { joined = joined; state = kept (joined .hour .refusal) after Outside }
+
+abbrev pub sRegWorkedBy : SRegHour → Settled
+sRegWorkedBy h = sRegAnswer h secondsOfHour
+
+unfoldable pub sRegJointOf : SRegHour → Month → ℕ → ℕ → StateJoined
+sRegJointOf h month day hour = let worked = sRegWorkedBy h in besideState (postedOf (worked .hour) month day hour) (worked .state)
 
 -- a call of `hour` on h, with a lent run of 3,600 scores, and one of `joint` on the same hour
 pub record SameHour (h : WholeHour) (scores : List ℕ) (g : WholeHour) : Type 0 where

@@ -1,5 +1,5 @@
 -- Fields that are put one after the other, and how long they are. By the fields that are left. Assumes nothing.
-use Prim.Native.Nat.{ℕ, zero, suc, _+_, _*_, _≤_, _<_}
+use Prim.Native.Nat.{ℕ, suc, _+_, _*_, _≤_, _<_}
 use mathlib.Core.Path.{_≡_, sym, _∙_}
 use mathlib.Core.Bool.{true, false}
 use mathlib.Core.List.{List, [], _∷_, map}
@@ -7,24 +7,20 @@ use native.Mathlib.Omega.{arith}
 use lib.Dec.{leb}
 use borrow.Author.Tests.{leb-true, le-leb}
 use lib.IntN.{ℤ, pos}
-use lib.ListN.{length, length-append}
+use lib.ListN.{length, getD, length-append}
 use mir.Syntax.{w64}
 use mir.Val.{SFits}
 use Rattle.whole.specs.Choice.{kept}
-use Rattle.whole.specs.Runs.{listed}
 use Rattle.whole.proofs.Choice.{by-test, clash, kept-any}
-use Rattle.whole.proofs.Runs.{length-listed}
 use Rattle.units.specs.Limits.{secondsOfHour, secondsOfQuarter}
 use Rattle.units.specs.Units.{kilowatts}
 use Rattle.ramp.specs.Ramp.{rampOf, rampRefusal}
 use Rattle.ramp.proofs.Accepted.{ramp-ramped}
-use Rattle.score.specs.Run.{runScores}
-use Rattle.hour.specs.Hour.{scoresOf}
 use Rattle.numbers.specs.Numbers.{number}
-use Rattle.words.specs.declared.Hour.the-variants.{Dreg, Edreg}
+use Rattle.words.specs.declared.Hour.the-variants.{Dreg, Edreg, Sreg}
 use Rattle.words.specs.declared.Series.{Series}
-use Rattle.words.specs.declared.Series.the-variants.{Ramp, DregScores, EdregScores}
-use Rattle.hours.specs.Hours.{HourNumbers, Basis, hourAsked, settlement, scoresReply}
+use Rattle.words.specs.declared.Series.the-variants.{Ramp, DregScores, EdregScores, SregScores}
+use Rattle.hours.specs.Hours.{HourNumbers, Basis, hourAsked, settlement, scoresIs, scoresReply}
 use Rattle.hours.proofs.HourLaws.{scores-all, score-small}
 use Rattle.series.specs.Series.{rampReply, seriesReply}
 use Rattle.text.specs.Text.{signedText, put}
@@ -84,23 +80,17 @@ byte-short : (b : ℕ) → b < 256 → length (field (pos b)) ≤ 4
 unfolding signedText
 byte-short b g = omega (arith, length-decimal 2 b (omega arith))
 
-bytes-within : (f : ℕ → ℕ) → ((k : ℕ) → f k < 256) → (i n : ℕ) → length (fieldsText (map pos (listed f i n))) ≤ 4 * n
-bytes-within f h i zero = omega arith
-bytes-within f h i (suc n) =
-    let l = length-append (field (pos (f i))) (fieldsText (map pos (listed f (suc i) n))) in
-    omega (arith, byte-short (f i) (h i), bytes-within f h (suc i) n)
+bytes-within : (bytes : List ℕ) → ((k : ℕ) → getD bytes k 0 < 256) → length (fieldsText (map pos bytes)) ≤ 4 * length bytes
+bytes-within [] h = omega arith
+bytes-within (b ∷ bs) h =
+    let l = length-append (field (pos b)) (fieldsText (map pos bs)) in
+    omega (arith, byte-short b (h 0), bytes-within bs (λ k. h (suc k)))
 
 -- the scores of an hour, or none beside a refusal
-scores-short : (k n : ℕ) (f : ℕ → ℕ) → (k ≡ 0 → n ≡ secondsOfHour) → ((i : ℕ) → f i < 256)
-    → length (fieldsText (kept k (map pos (listed f 0 n)) [])) ≤ mostFields
-scores-short k n f l h =
-    let b = bytes-within f h 0 n in
-    kept-any (λ (l : List ℤ). length (fieldsText l) ≤ mostFields) k (λ e. let m : n ≡ secondsOfHour = l e in omega arith) (omega arith)
-
-hour-short : (h : Basis) → length (fieldsText (kept (settlement h .refusal) (map pos (scoresOf (h .hour))) [])) ≤ mostFields
-unfolding scoresOf runScores
+hour-short : (h : Basis) → length (fieldsText (kept (settlement h .refusal) (map pos (scoresIs h)) [])) ≤ mostFields
 hour-short h =
-    scores-short (settlement h .refusal) (length (h .hour .powers)) _ (λ z. sym (length-listed _ 0 _) ∙ scores-all h z) (λ i. omega (arith, score-small (h .hour) i))
+    let b = bytes-within (scoresIs h) (λ i. omega (arith, score-small (h .asked) (h .state) (h .hour) i)) in
+    kept-any (λ (l : List ℤ). length (fieldsText l) ≤ mostFields) (settlement h .refusal) (λ e. let m : length (scoresIs h) ≡ secondsOfHour = scores-all h e in omega arith) (omega arith)
 
 -- the fields of a run: at most 900, or short
 pub series-short : (asks : Series) (n : List ℤ) (given : HourNumbers) → Short (seriesReply asks n given .fields)
@@ -111,3 +101,4 @@ series-short Ramp n given =
     few-fields (rampReply n .fields) (kept-any (λ (l : List ℤ). length l ≤ secondsOfQuarter) (rampRefusal (kilowatts (number n 0)) (kilowatts (number n 1)) secondsOfQuarter) {new = rampOf (number n 0) (number n 1)} {old = []} (λ z. quarter) none)
 series-short DregScores n given = λ t. hour-short (hourAsked Dreg given)
 series-short EdregScores n given = λ t. hour-short (hourAsked Edreg given)
+series-short SregScores n given = λ t. hour-short (hourAsked Sreg given)

@@ -11,7 +11,7 @@ use Rattle.whole.specs.Refused.{RefusedKeeps}
 use Rattle.whole.specs.Choice.{kept}
 use Rattle.words.specs.Replies.{Reply, reply}
 use Rattle.words.specs.declared.Series.{Series}
-use Rattle.words.specs.declared.Series.the-variants.{Ramp, DregScores, EdregScores}
+use Rattle.words.specs.declared.Series.the-variants.{Ramp, DregScores, EdregScores, SregScores}
 use Rattle.hours.specs.Hours.{HourNumbers, scoresReply}
 use Rattle.series.specs.Series.{rampReply, seriesReply}
 use Rattle.series.specs.Inner.{ranOf, ranLeft}
@@ -35,6 +35,7 @@ unfolding rampReply scoresReply
 keeps Ramp n given = by-number _ _
 keeps DregScores n given = by-number _ _
 keeps EdregScores n given = by-number _ _
+keeps SregScores n given = by-number _ _
 
 -- the run, as it was lent and as it is left
 abbrev lent : (κs : Lfts 4) → Dens κs answer-kinds.ps → List ℤ

@@ -7,9 +7,9 @@ use Rattle.units.specs.Units.{kilowatts}
 use Rattle.ramp.specs.Ramp.{rampOf, rampRefusal}
 use Rattle.numbers.specs.Numbers.{number}
 use Rattle.words.specs.Replies.{Reply, reply}
-use Rattle.words.specs.declared.Hour.the-variants.{Dreg, Edreg}
+use Rattle.words.specs.declared.Hour.the-variants.{Dreg, Edreg, Sreg}
 use Rattle.words.specs.declared.Series.{Series}
-use Rattle.words.specs.declared.Series.the-variants.{Ramp, DregScores, EdregScores}
+use Rattle.words.specs.declared.Series.the-variants.{Ramp, DregScores, EdregScores, SregScores}
 use Rattle.hours.specs.Hours.{HourNumbers, scoresReply}
 
 -- LAST TARGET: 0 and the 900 seconds' powers; or the refusal alone
@@ -23,3 +23,4 @@ abbrev pub seriesReply : Series → List ℤ → HourNumbers → Reply
 seriesReply Ramp n given = rampReply n
 seriesReply DregScores n given = scoresReply Dreg given
 seriesReply EdregScores n given = scoresReply Edreg given
+seriesReply SregScores n given = scoresReply Sreg given

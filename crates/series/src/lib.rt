@@ -35,6 +35,7 @@ pub fn answer(
         Series::Ramp => ramp(head, run),
         Series::DregScores => scores(Hour::Dreg, head, bands, counted, earlier, readings, run),
         Series::EdregScores => scores(Hour::Edreg, head, bands, counted, earlier, readings, run),
+        Series::SregScores => scores(Hour::Sreg, head, bands, counted, earlier, readings, run),
     }
 }
 

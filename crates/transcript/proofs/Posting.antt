@@ -27,11 +27,11 @@ use Rattle.frame.proofs.RoundTrip.{read-written}
 use borrow.Author.Needs.{needs}
 use Rattle.units.specs.Limits.{secondsOfHour, mostLossFee, isLossFee}
 use Rattle.hour.specs.Hour.{refusedHour}
-use Rattle.hour.proofs.Laws.{hour-within}
 use Rattle.numbers.specs.Numbers.{number, isByte, byteOf}
 use Rattle.words.specs.declared.Hour as words
 use Rattle.numbers.specs.declared.Places.{Places}
-use Rattle.hours.specs.Hours.{Basis, settlement}
+use Rattle.hours.specs.Hours.{Basis, ended, settlement}
+use Rattle.hours.proofs.HourLaws.{amount-by}
 use Rattle.units.specs.declared.Dollars.{Dollars}
 use Rattle.loss.proofs.Laws.{loss-posts}
 use Rattle.frames.specs.Frames.{framedBy, hourPost, feeEntry, lossAsked, lossFrames}
@@ -53,10 +53,10 @@ byte-below (negsuc n) =
     by-test (isByte (negsuc n)) (λ (t : isByte (negsuc n) ≡ true). rw t (omega arith)) (λ (t : isByte (negsuc n) ≡ false). rw t (omega arith))
 
 amount-fits : (h : Basis) → SFits w64 (settlement h .amount .0)
-unfolding settlement refusedHour
+unfolding ended refusedHour
 amount-fits h =
     by-test (h .fits)
-    (λ (t : h .fits ≡ true). rw t (within-fits w64 tt (hour-within (h .hour) secondsOfHour)))
+    (λ (t : h .fits ≡ true). rw t (within-fits w64 tt (amount-by (h .asked) (h .state) (h .hour) secondsOfHour)))
     (λ (t : h .fits ≡ false). rw t (search needs))
 
 entry-is : (asks : words.Hour) (n : List ℤ) (places : Places) → hourFrame asks n places .refusal ≡ 0 → hourFrame asks n places .entry ≡ posting (byteOf (number n 0)) (byteOf (number n 1)) (hourFramed asks n places)

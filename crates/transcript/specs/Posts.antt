@@ -1,4 +1,4 @@
--- The line of `dreg_frame` and `edreg_frame`: the post of the hour that was asked; the two lines of `loss_frames`: the settings of the two fees; and `desk | ledger`: what the ledger's
+-- The line of `dreg_frame`, `edreg_frame` and `sreg_frame`: the post of the hour that was asked; the two lines of `loss_frames`: the settings of the two fees; and `desk | ledger`: what the ledger's
 -- program answers to those lines.
 use Prim.Native.Nat.{ℕ}
 use mathlib.Core.Path.{_≡_}

@@ -1,5 +1,5 @@
 -- The questions: of each its word, what it asks, and the shape of its numbers.
-use Prim.Native.Nat.{ℕ, _*_}
+use Prim.Native.Nat.{ℕ, _+_, _*_}
 use Prim.Native.String as text
 use mathlib.Core.List.{List, [], _∷_}
 use lib.Dec.{eqb}
@@ -9,9 +9,9 @@ use Rattle.words.specs.Faults.{notQuestion}
 use Rattle.words.specs.Words.{wordOf}
 use Rattle.words.specs.declared.Question.{Question}
 use Rattle.words.specs.declared.Rule.the-variants.{Kilowatts, Curve, Score, Rate, Bands, Factor, Fee, Quality, Energy, Loss}
-use Rattle.words.specs.declared.Hour.the-variants.{Dreg, Edreg}
-use Rattle.words.specs.declared.Series.the-variants.{Ramp, DregScores, EdregScores}
-use Rattle.words.specs.declared.Framing.the-variants.{DregFrame, EdregFrame, Frame, LossFrames}
+use Rattle.words.specs.declared.Hour.the-variants.{Dreg, Edreg, Sreg}
+use Rattle.words.specs.declared.Series.the-variants.{Ramp, DregScores, EdregScores, SregScores}
+use Rattle.words.specs.declared.Framing.the-variants.{DregFrame, EdregFrame, SregFrame, Frame, LossFrames}
 use Rattle.words.specs.declared.Question.the-variants as asks
 use Rattle.words.specs.declared.Shape.{Shape}
 use Rattle.words.specs.declared.Row.{Row}
@@ -40,6 +40,10 @@ singlesGroups head group = shape head noLists 0 group
 abbrev pub hourShape : ℕ → Shape
 hourShape head = shape head (2 ∷ 1 ∷ 0 ∷ 0 ∷ []) (2 * secondsOfHour) 0
 
+-- as an hour's, with the three numbers of a state before the readings (document 02, #103)
+abbrev pub stateShape : ℕ → Shape
+stateShape head = shape head (2 ∷ 1 ∷ 0 ∷ 0 ∷ []) (3 + 2 * secondsOfHour) 0
+
 abbrev pub known : Question → Shape → Row
 known question shape = record { fault = 0; question = question; shape = shape }
 
@@ -66,10 +70,13 @@ table =
     ∷ entry "loss" (asks.Rule Loss) (singles 4)
     ∷ entry "dreg" (asks.Hour Dreg) (hourShape 3)
     ∷ entry "edreg" (asks.Hour Edreg) (hourShape 10)
+    ∷ entry "sreg" (asks.Hour Sreg) (stateShape 3)
     ∷ entry "dreg_scores" (asks.Series DregScores) (hourShape 3)
     ∷ entry "edreg_scores" (asks.Series EdregScores) (hourShape 10)
+    ∷ entry "sreg_scores" (asks.Series SregScores) (stateShape 3)
     ∷ entry "dreg_frame" (asks.Frame DregFrame) (hourShape 5)
     ∷ entry "edreg_frame" (asks.Frame EdregFrame) (hourShape 12)
+    ∷ entry "sreg_frame" (asks.Frame SregFrame) (stateShape 5)
     ∷ entry "frame" (asks.Frame Frame) (singles 4)
     ∷ entry "loss_frames" (asks.Frame LossFrames) (singles 4)
     ∷ []

@@ -25,13 +25,19 @@ pub(crate) const DREG: u64 = 149_671;
 
 pub(crate) const EDREG: u64 = 5_392_551;
 
+pub(crate) const SREG: u64 = 641_191;
+
 pub(crate) const DREG_SCORES: u64 = 5_142_686_033_496_243;
 
 pub(crate) const EDREG_SCORES: u64 = 185_286_671_128_316_083;
 
+pub(crate) const SREG_SCORES: u64 = 22_031_184_636_135_603;
+
 pub(crate) const DREG_FRAME: u64 = 160_708_925_392_293;
 
 pub(crate) const EDREG_FRAME: u64 = 5_790_208_459_605_413;
+
+pub(crate) const SREG_FRAME: u64 = 688_474_506_724_773;
 
 pub(crate) const FRAME: u64 = 6_882_725;
 

@@ -1,6 +1,6 @@
 // The questions of the program `desk`: of each its word, and the shape of its numbers. And the numbers of the faults.
 ghost use mathlib.Core.Path.{_≡_};
-ghost use Rattle.words.specs.Questions.{known, singles, secondsShape, scoresShape, singlesGroups, hourShape, questionOf};
+ghost use Rattle.words.specs.Questions.{known, singles, secondsShape, scoresShape, singlesGroups, hourShape, stateShape, questionOf};
 use units::limits;
 
 mod codes;
@@ -31,17 +31,20 @@ pub enum Rule {
 pub enum Hour {
     Dreg,
     Edreg,
+    Sreg,
 }
 
 pub enum Series {
     Ramp,
     DregScores,
     EdregScores,
+    SregScores,
 }
 
 pub enum Framing {
     DregFrame,
     EdregFrame,
+    SregFrame,
     Frame,
     LossFrames,
 }
@@ -87,10 +90,13 @@ pub fn question_of(code: u64) -> Row
         codes::LOSS => singles(Question::Rule(Rule::Loss), 4),
         codes::DREG => hourly(Question::Hour(Hour::Dreg), 3),
         codes::EDREG => hourly(Question::Hour(Hour::Edreg), 10),
+        codes::SREG => stated(Question::Hour(Hour::Sreg), 3),
         codes::DREG_SCORES => hourly(Question::Series(Series::DregScores), 3),
         codes::EDREG_SCORES => hourly(Question::Series(Series::EdregScores), 10),
+        codes::SREG_SCORES => stated(Question::Series(Series::SregScores), 3),
         codes::DREG_FRAME => hourly(Question::Frame(Framing::DregFrame), 5),
         codes::EDREG_FRAME => hourly(Question::Frame(Framing::EdregFrame), 12),
+        codes::SREG_FRAME => stated(Question::Frame(Framing::SregFrame), 5),
         codes::FRAME => singles(Question::Frame(Framing::Frame), 4),
         codes::LOSS_FRAMES => singles(Question::Frame(Framing::LossFrames), 4),
         _ => Row {
@@ -181,6 +187,22 @@ fn hourly(question: Question, head: u8) -> Row
             head,
             lists: [2, 1, 0, 0],
             tail: 2 * limits::SECONDS as u16,
+            group: 0,
+        },
+    }
+}
+
+// An sReg hour's: as an hour's, with the three numbers of a state before the readings.
+fn stated(question: Question, head: u8) -> Row
+    ensures { λ r. ⌜ r ≡ known question (stateShape head) ⌝ }
+{
+    Row {
+        fault: 0,
+        question,
+        shape: Shape {
+            head,
+            lists: [2, 1, 0, 0],
+            tail: 3 + 2 * limits::SECONDS as u16,
             group: 0,
         },
     }

@@ -10,8 +10,8 @@ use Rattle.hour.proofs.dreg_hour.Tie as tie
 abbrev hour : tie.Start → WholeHour
 hour s = let a = s .args in dRegHour (a .powers .now) (a .frequencies .now) (a .terms) (a .thresholds .now) (a .factors .now) (a .earlier .now)
 
-refusal-requires : tie.Need-refusal-requires
-refusal-requires c κs = search needs
+terms-refusal-requires : tie.Need-terms-refusal-requires
+terms-refusal-requires c κs = search needs
 
 refused-hour-requires : tie.Need-refused-hour-requires
 refused-hour-requires c κs = search needs
@@ -20,7 +20,7 @@ returns : tie.Need-returns
 returns c =
     let t = c .before in
     let s = t .before .before .before .before in
-    terms-refused (hour s) (s .args .scores .now) (t .before .refusal .ensures) (t .if1 .taken) (c .refused-hour .ensures)
+    terms-refused (hour s) (s .args .scores .now) (t .before .terms-refusal .ensures) (t .if1 .taken) (c .refused-hour .ensures)
 
 slice-aggregate-worked : tie.Need-slice-aggregate-worked
 slice-aggregate-worked c = search needs
@@ -38,14 +38,14 @@ returns-2 c =
     let e = w .before .before .before in
     let s = e .before .before .before .before in
     let run = s .args .scores .now in
-    let none : ofTerms (hour s) (length run) ≡ 0 = sym (e .before .refusal .ensures) ∙ e .if1 .left in
+    let none : ofTerms (hour s) (length run) ≡ 0 = sym (e .before .terms-refusal .ensures) ∙ e .if1 .left in
     (w .worked .ensures .0 ∙ worked-is (hour s) (length run) none, w .worked .ensures .1 ∙ left-is (hour s) run none)
 
 pub dreg-hour-spec : {M : Type 1} → statement M
 dreg-hour-spec =
     tie.close
     (tie.spec
-    refusal-requires
+    terms-refusal-requires
     refused-hour-requires
     returns
     slice-aggregate-worked

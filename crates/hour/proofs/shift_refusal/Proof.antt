@@ -1,4 +1,4 @@
--- `hour::shift_refusal` meets its contract: that of `refusal`, with the two tests of what is shifted. Assumes nothing.
+-- `hour::shift_refusal` meets its contract: that of `terms_refusal`, with the two tests of what is shifted. Assumes nothing.
 use mir.Syntax.{w64}
 use mir.Val.{SFits}
 use mir.Facts.{toZ-ofZ}
@@ -12,8 +12,8 @@ prices-fit-requires c κs = search needs
 all-within-requires : tie.Need-all-within-requires
 all-within-requires c κs = search needs
 
-refusal-requires : tie.Need-refusal-requires
-refusal-requires c κs = search needs
+terms-refusal-requires : tie.Need-terms-refusal-requires
+terms-refusal-requires c κs = search needs
 
 discharge-fits : (c : tie.After-struct-told2) → SFits w64 (c .before .before .args .t6 .discharge)
 discharge-fits c = search needs
@@ -26,8 +26,8 @@ returns c =
     let planned = c .before in
     let priced = planned .before .before .before .before in
     let s = priced .before in
-    rw (rw (toZ-ofZ (discharge-fits s), toZ-ofZ (charge-fits s)) at (priced .prices-fit .ensures), planned .all-within .ensures) at (c .refusal .ensures)
+    rw (rw (toZ-ofZ (discharge-fits s), toZ-ofZ (charge-fits s)) at (priced .prices-fit .ensures), planned .all-within .ensures) at (c .terms-refusal .ensures)
 
 pub shift-refusal-spec : {M : Type 1} → statement M
 shift-refusal-spec =
-    tie.close (tie.spec prices-fit-requires all-within-requires refusal-requires returns)
+    tie.close (tie.spec prices-fit-requires all-within-requires terms-refusal-requires returns)

@@ -1,29 +1,33 @@
--- `hours::answer` meets its contract: the settlement, field by field. Assumes nothing.
+-- `hours::answer` meets its contract: the fields of what `settle_asked` answers. Assumes nothing.
+use mathlib.Core.Path.{sym, ap, _∙_, subst}
 use borrow.Author.Needs.{needs}
-use mir.Syntax.{w64}
-use mir.Val.{SFits}
-use mir.Facts.{toZ-ofZ}
-use Rattle.hours.specs.Hours.{hourReply}
+use Rattle.sreg_hour.specs.declared.Settled.{Settled}
+use Rattle.words.specs.Inner.{boxed}
+use Rattle.hours.specs.Hours.{hourNumbers, hourShown, hourReply}
+use Rattle.hours.specs.Inner.{inTwelve}
+use Rattle.hours.proofs.HourLaws.{Stateless, stateless, twelve-is}
 use Rattle.hours.proofs.answer.Statement.{statement}
 use Rattle.hours.proofs.answer.Tie as tie
 
-settle-requires : tie.Need-settle-requires
-settle-requires c κs = search needs
+settle-asked-requires : tie.Need-settle-asked-requires
+settle-asked-requires c κs = search needs
 
-cast-t15 : tie.Need-cast-t15
-cast-t15 c = search needs
+state-fields-requires : tie.Need-state-fields-requires
+state-fields-requires c κs = search needs
+
+shown-requires : tie.Need-shown-requires
+shown-requires c κs = search needs
 
 returns : tie.Need-returns
 unfolding hourReply
 returns c =
-    let r = c .before .before .before .before .before .before .before .before .before .before .before .before .settle in
-    let factor : SFits w64 (r .result .factor) = search needs in
-    let capacity : SFits w64 (r .result .capacity .0) = search needs in
-    let performance : SFits w64 (r .result .performance .0) = search needs in
-    let quality : SFits w64 (r .result .quality .0) = search needs in
-    let energy : SFits w64 (r .result .energy .0) = search needs in
-    let amount : SFits w64 (r .result .amount .0) = search needs in
-    rw (toZ-ofZ (cast-t15 (c .before .before .before .before .before .before)), toZ-ofZ factor, toZ-ofZ capacity, toZ-ofZ performance, toZ-ofZ quality, toZ-ofZ energy, toZ-ofZ amount, r .ensures .0)
+    let f = c .before in
+    let w = f .before .before in
+    let r = w .settle-asked in
+    let a = w .before .before .args in
+    let n = hourNumbers (a .terms) (a .bands .now) (a .counted) (a .earlier .now) (a .readings .now) in
+    let none = subst (λ (x : Settled). Stateless (a .hour) (x .state)) (sym (r .ensures .0)) (stateless (a .hour) n) in
+    c .shown .ensures ∙ ap (inTwelve (a .hour) (r .result .hour)) (f .state-fields .ensures) ∙ twelve-is (a .hour) (r .result) none ∙ ap (λ (x : Settled). boxed (hourShown (a .hour) x)) (r .ensures .0)
 
 pub answer-spec : {M : Type 1} → statement M
-answer-spec = tie.close (tie.spec settle-requires cast-t15 returns)
+answer-spec = tie.close (tie.spec settle-asked-requires state-fields-requires shown-requires returns)

@@ -5,11 +5,10 @@ use mathlib.Core.List.{List}
 use lib.IntN.{ℤ}
 use lib.ListN.{length}
 use lib.Seq.{length-take-le}
-use Rattle.hour.specs.Hour.{hourAnswer, scoresLeft}
 use Rattle.numbers.specs.Numbers.{column}
 use Rattle.numbers.specs.Inner.{taken}
 use Rattle.numbers.proofs.Columns.{Front, front}
-use Rattle.hours.specs.Hours.{serviceOf, hourFrom}
+use Rattle.hours.specs.Hours.{serviceOf, hourFrom, endedBy, leftBy}
 use Rattle.hours.proofs.settle_bands.Statement.{statement}
 use Rattle.hours.proofs.settle_bands.Tie as tie
 
@@ -67,8 +66,8 @@ returns c =
     let bands = a .bands .now in
     let t = thresholds p .is ∙ ap (column bands 0) (p .pairs-in .ensures .0) in
     let g = factors p .is ∙ ap (column bands 1) (p .pairs-in .ensures .0) in (
-      h .settle-kind .ensures .0 ∙ ap₂ (λ (t g : List ℤ). hourAnswer (hourFrom (a .powers .now) (a .frequencies .now) (a .terms) (serviceOf (a .hour) (a .shift)) t g (taken (a .before))) (length (a .scores .now))) t g,
-      h .settle-kind .ensures .1 ∙ ap₂ (λ (t g : List ℤ). scoresLeft (hourFrom (a .powers .now) (a .frequencies .now) (a .terms) (serviceOf (a .hour) (a .shift)) t g (taken (a .before))) (a .scores .now)) t g,
+      h .settle-kind .ensures .0 ∙ ap₂ (λ (t g : List ℤ). endedBy (a .hour) (a .state) (hourFrom (a .powers .now) (a .frequencies .now) (a .terms) (serviceOf (a .hour) (a .shift)) t g (taken (a .before))) (length (a .scores .now))) t g,
+      h .settle-kind .ensures .1 ∙ ap₂ (λ (t g : List ℤ). leftBy (a .hour) (a .state) (hourFrom (a .powers .now) (a .frequencies .now) (a .terms) (serviceOf (a .hour) (a .shift)) t g (taken (a .before))) (a .scores .now)) t g,
     )
 
 pub settle-bands-spec : {M : Type 1} → statement M

@@ -4,8 +4,7 @@ use mathlib.Core.Path.{_≡_, _∙_}
 use lib.ListN.{length}
 use Rattle.units.specs.Limits.{secondsOfHour}
 use Rattle.numbers.proofs.Bytes.{lent}
-use Rattle.hours.specs.Hours.{serviceOf}
-use Rattle.hours.proofs.HourLaws.{settlement-is, left-is}
+use Rattle.hours.proofs.HourLaws.{ended-is, left-is}
 use Rattle.hours.proofs.settle_by.Statement.{statement}
 use Rattle.hours.proofs.settle_by.Tie as tie
 
@@ -42,12 +41,11 @@ returns c =
     let y = b .before .before in
     let x = y .before .before .before in
     let s = x .before .before in
-    let a = s .args in
-    let service = serviceOf (a .hour) (a .shift) in (
+    let a = s .args in (
       c .settle-bands .ensures .0
-          ∙ settlement-is (a .terms) service (a .bands .now) (a .earlier .now) (a .readings .now) _ _ _ (a .scores .now) (x .column .ensures) (y .column2 .ensures) (b .first-four .ensures) (long (c .before)) (s .pre),
+          ∙ ended-is (a .hour) (a .terms) (a .shift) (a .state) (a .bands .now) (a .earlier .now) (a .readings .now) _ _ _ (a .scores .now) (x .column .ensures) (y .column2 .ensures) (b .first-four .ensures) (long (c .before)) (s .pre),
       c .settle-bands .ensures .1
-          ∙ left-is (a .terms) service (a .bands .now) (a .earlier .now) (a .readings .now) _ _ _ (a .scores .now) (x .column .ensures) (y .column2 .ensures) (b .first-four .ensures) (long (c .before)) (s .pre),
+          ∙ left-is (a .hour) (a .terms) (a .shift) (a .state) (a .bands .now) (a .earlier .now) (a .readings .now) _ _ _ (a .scores .now) (x .column .ensures) (y .column2 .ensures) (b .first-four .ensures) (long (c .before)) (s .pre),
     )
 
 pub settle-by-spec : {M : Type 1} → statement M

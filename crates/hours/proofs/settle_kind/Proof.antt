@@ -1,7 +1,14 @@
 -- `hours::settle_kind` meets its contract: by the kind of hour. Assumes nothing.
+use mathlib.Core.Path.{ap}
 use borrow.Author.Needs.{needs}
+use Rattle.hour.specs.declared.Settlement.{Settlement}
+use Rattle.sreg.specs.declared.EventState.the-variants.{Outside}
+use Rattle.sreg_hour.specs.declared.Settled.{Settled}
 use Rattle.hours.proofs.settle_kind.Statement.{statement}
 use Rattle.hours.proofs.settle_kind.Tie as tie
+
+abbrev outside : Settlement → Settled
+outside h = record { hour = h; state = Outside }
 
 enum-told : tie.Need-enum-told
 enum-told c = search needs
@@ -15,13 +22,19 @@ enum-told-2 c = search needs
 hour-requires : tie.Need-hour-requires
 hour-requires c κs = search needs
 
+enum-told-3 : tie.Need-enum-told-3
+enum-told-3 c = search needs
+
+sreg-hour-requires : tie.Need-sreg-hour-requires
+sreg-hour-requires c κs = search needs
+
 same-length : tie.Need-same-length
 same-length c = search needs
 
 returns : tie.Need-returns
 returns c =
     let w = c .before .before in
-    rw (w .before .before .enum-told .given .1) (w .dreg-hour .ensures .0, w .dreg-hour .ensures .1)
+    rw (w .before .before .enum-told .given .1) (ap outside (w .dreg-hour .ensures .0), w .dreg-hour .ensures .1)
 
 same-length-2 : tie.Need-same-length-2
 same-length-2 c = search needs
@@ -29,7 +42,15 @@ same-length-2 c = search needs
 returns-2 : tie.Need-returns-2
 returns-2 c =
     let w = c .before .before in
-    rw (w .before .before .enum-told2 .given .1) (w .hour .ensures .0, w .hour .ensures .1)
+    rw (w .before .before .enum-told2 .given .1) (ap outside (w .hour .ensures .0), w .hour .ensures .1)
+
+same-length-3 : tie.Need-same-length-3
+same-length-3 c = search needs
+
+returns-3 : tie.Need-returns-3
+returns-3 c =
+    let w = c .before .before in
+    rw (w .before .before .enum-told3 .given .1) (w .sreg-hour .ensures .0, w .sreg-hour .ensures .1)
 
 pub settle-kind-spec : {M : Type 1} → statement M
 settle-kind-spec =
@@ -39,7 +60,11 @@ settle-kind-spec =
     dreg-hour-requires
     enum-told-2
     hour-requires
+    enum-told-3
+    sreg-hour-requires
     same-length
     returns
     same-length-2
-    returns-2)
+    returns-2
+    same-length-3
+    returns-3)

@@ -46,17 +46,26 @@ hourly-requires c κs = search needs
 hourly-requires-2 : tie.Need-hourly-requires-2
 hourly-requires-2 c κs = search needs
 
+stated-requires : tie.Need-stated-requires
+stated-requires c κs = search needs
+
 hourly-requires-3 : tie.Need-hourly-requires-3
 hourly-requires-3 c κs = search needs
 
 hourly-requires-4 : tie.Need-hourly-requires-4
 hourly-requires-4 c κs = search needs
 
+stated-requires-2 : tie.Need-stated-requires-2
+stated-requires-2 c κs = search needs
+
 hourly-requires-5 : tie.Need-hourly-requires-5
 hourly-requires-5 c κs = search needs
 
 hourly-requires-6 : tie.Need-hourly-requires-6
 hourly-requires-6 c κs = search needs
+
+stated-requires-3 : tie.Need-stated-requires-3
+stated-requires-3 c κs = search needs
 
 singles-requires-8 : tie.Need-singles-requires-8
 singles-requires-8 c κs = search needs
@@ -118,31 +127,43 @@ returns-13 c = rw (c .before .match .keys13) (c .hourly2 .ensures)
 
 returns-14 : tie.Need-returns-14
 unfolding questionOf letterOf
-returns-14 c = rw (c .before .match .keys14) (c .hourly3 .ensures)
+returns-14 c = rw (c .before .match .keys14) (c .stated .ensures)
 
 returns-15 : tie.Need-returns-15
 unfolding questionOf letterOf
-returns-15 c = rw (c .before .match .keys15) (c .hourly4 .ensures)
+returns-15 c = rw (c .before .match .keys15) (c .hourly3 .ensures)
 
 returns-16 : tie.Need-returns-16
 unfolding questionOf letterOf
-returns-16 c = rw (c .before .match .keys16) (c .hourly5 .ensures)
+returns-16 c = rw (c .before .match .keys16) (c .hourly4 .ensures)
 
 returns-17 : tie.Need-returns-17
 unfolding questionOf letterOf
-returns-17 c = rw (c .before .match .keys17) (c .hourly6 .ensures)
+returns-17 c = rw (c .before .match .keys17) (c .stated2 .ensures)
 
 returns-18 : tie.Need-returns-18
 unfolding questionOf letterOf
-returns-18 c = rw (c .before .match .keys18) (c .singles8 .ensures)
+returns-18 c = rw (c .before .match .keys18) (c .hourly5 .ensures)
 
 returns-19 : tie.Need-returns-19
 unfolding questionOf letterOf
-returns-19 c = rw (c .before .match .keys19) (c .singles9 .ensures)
+returns-19 c = rw (c .before .match .keys19) (c .hourly6 .ensures)
 
 returns-20 : tie.Need-returns-20
 unfolding questionOf letterOf
-returns-20 c = sym (nowhere (c .before .args .code) Unit table (c .match .rest) .1)
+returns-20 c = rw (c .before .match .keys20) (c .stated3 .ensures)
+
+returns-21 : tie.Need-returns-21
+unfolding questionOf letterOf
+returns-21 c = rw (c .before .match .keys21) (c .singles8 .ensures)
+
+returns-22 : tie.Need-returns-22
+unfolding questionOf letterOf
+returns-22 c = rw (c .before .match .keys22) (c .singles9 .ensures)
+
+returns-23 : tie.Need-returns-23
+unfolding questionOf letterOf
+returns-23 c = sym (nowhere (c .before .args .code) Unit table (c .match .rest) .1)
 
 pub question-of-spec : {M : Type 1} → statement M
 question-of-spec =
@@ -161,10 +182,13 @@ question-of-spec =
     singles-requires-7
     hourly-requires
     hourly-requires-2
+    stated-requires
     hourly-requires-3
     hourly-requires-4
+    stated-requires-2
     hourly-requires-5
     hourly-requires-6
+    stated-requires-3
     singles-requires-8
     singles-requires-9
     returns
@@ -186,4 +210,7 @@ question-of-spec =
     returns-17
     returns-18
     returns-19
-    returns-20)
+    returns-20
+    returns-21
+    returns-22
+    returns-23)

@@ -1,12 +1,12 @@
--- `hour::refusal` meets its contract: straight-line code that mirrors the list of tests. Assumes nothing.
+-- `hour::terms_refusal` meets its contract: straight-line code that mirrors the list of tests. Assumes nothing.
 use mir.Syntax.{w64}
 use mir.Val.{SFits}
 use mir.Facts.{toZ-ofZ}
 use borrow.Author.Needs.{needs}
-use Rattle.hour.specs.Inner.{termsRefusal}
 use Rattle.hour.proofs.Laws.{bands-test}
-use Rattle.hour.proofs.refusal.Statement.{statement}
-use Rattle.hour.proofs.refusal.Tie as tie
+use Rattle.hour.specs.Hour.{termsRefusal}
+use Rattle.hour.proofs.terms_refusal.Statement.{statement}
+use Rattle.hour.proofs.terms_refusal.Tie as tie
 
 unless-requires : tie.Need-unless-requires
 unless-requires c κs = search needs
@@ -64,8 +64,8 @@ returns c =
       toZ-ofZ (performance-fits (prices .before)),
     ) at (c .unless5 .ensures)
 
-pub refusal-spec : {M : Type 1} → statement M
-refusal-spec =
+pub terms-refusal-spec : {M : Type 1} → statement M
+terms-refusal-spec =
     tie.close
     (tie.spec
     unless-requires

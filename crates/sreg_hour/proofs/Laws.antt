@@ -1,0 +1,137 @@
+-- An sReg hour's inputs fit just where its refusal is 0; the core is the hour where the terms are let through; and what the refusal decides of the answer and of the lent run. By the lists of
+-- tests. Assumes nothing.
+use Prim.Native.Nat.{ℕ}
+use mathlib.Core.Path.{_≡_, refl, sym, ap, _∙_}
+use mathlib.Core.Bool.{true, false, _&&_}
+use mathlib.Core.List.{List, _++_}
+use native.Mathlib.Omega.{arith}
+use lib.Dec.{eqb}
+use lib.IntN.{pos}
+use lib.ListN.{length}
+use borrow.Author.Tests.{eq-eqb, eqb-true}
+use Rattle.whole.specs.Choice.{unless, orElse, inOrder, kept}
+use Rattle.whole.specs.Whole.{Within}
+use Rattle.whole.proofs.Choice.{both, and-both, by-test, all-passed, passed-all, in-order-then, or-first, or-rest, kept-new, kept-old, kept-any}
+use Rattle.units.specs.Limits.{isPrice, secondsOfHour}
+use Rattle.units.specs.Refusals.{badReading}
+use Rattle.units.specs.Units.{dollars}
+use Rattle.rate.specs.Rolling.{areScores}
+use Rattle.fees.specs.Fees.{mostHourAmount}
+use Rattle.fees.proofs.Laws.{amount-within}
+use Rattle.hour.specs.Hour.{WholeHour, dRegHour, readingsFit, termsRefusal, grantedHour, settledOf, refusedHour}
+use Rattle.hour.specs.Accepted.{HourFits}
+use Rattle.hour.proofs.Laws.{ofTerms, terms-fit, long-of, Long, TermsFit}
+use Rattle.sreg.specs.Second.{isState}
+use Rattle.sreg.specs.Run.{sRegScoresRefusal}
+use Rattle.sreg.proofs.Seconds.{length-scores}
+use Rattle.sreg_hour.specs.Hour.{SRegHour, sRegTermsTests, stateTests, sRegRefusal, sRegScores, sRegLeft, refusedSReg, grantedSReg, sRegAnswer}
+use Rattle.sreg_hour.specs.Accepted.{SRegFits}
+use Rattle.sreg_hour.specs.Inner.{workedNumber, sRegWorked, sRegWorkedLeft}
+use Rattle.sreg_hour.specs.declared.Settled.{Settled}
+
+-- what a dReg hour would be handed
+abbrev pub unshifted : SRegHour → WholeHour
+unshifted h = dRegHour (h .powers) (h .frequencies) (h .terms) (h .thresholds) (h .factors) (h .earlier)
+
+-- ---- the tests
+
+-- an hour that is not refused fits
+pub fit : (h : SRegHour) (places : ℕ) → sRegRefusal h places ≡ 0 → SRegFits h places
+unfolding sRegRefusal
+fit h places e =
+    let p = all-passed (sRegTermsTests h places ++ stateTests h) refl e in
+    let prices = and-both (isPrice (h .terms .clearing) && isPrice (h .terms .performance)) true (p .1 .1 .0) in
+    let last = and-both (areScores (h .earlier)) (isState (h .state) && readingsFit (h .powers) (h .frequencies)) (p .1 .1 .1 .1 .1 .0) in
+    let read = and-both (isState (h .state)) (readingsFit (h .powers) (h .frequencies)) (last .1) in
+    record { lengths = p .0; capacity = p .1 .0; prices = prices .0; bands = p .1 .1 .1 .0; before = last .0; state = read .0; readings = read .1 }
+
+-- and an hour that fits is not refused
+pub fit-none : (h : SRegHour) (places : ℕ) → SRegFits h places → sRegRefusal h places ≡ 0
+unfolding sRegRefusal
+fit-none h places f =
+    passed-all (sRegTermsTests h places ++ stateTests h)
+    (f .lengths, (f .capacity, (both (f .prices) refl, (f .bands, (refl, (both (f .before) (both (f .state) (f .readings)), tt))))))
+
+-- what fits an sReg hour fits a dReg one
+pub fits-unshifted : {h : SRegHour} {places : ℕ} → SRegFits h places → HourFits (unshifted h) places
+fits-unshifted f =
+    record { lengths = f .lengths; capacity = f .capacity; prices = both (f .prices) refl; bands = f .bands; targets = refl; readings = both (f .before) (f .readings) }
+
+-- ---- the core, where the terms are let through
+
+module _ (h : SRegHour) (places : ℕ) where
+  abbrev pub terms : ℕ
+  terms = ofTerms (unshifted h) places
+
+  tests-last : sRegRefusal h places ≡ orElse terms (inOrder (stateTests h))
+  unfolding sRegRefusal termsRefusal
+  tests-last = in-order-then (sRegTermsTests h places) (stateTests h) refl
+
+  -- where the terms fit, the scores' call refuses just for the state and the readings
+  scores-refusal : TermsFit (unshifted h) places
+      → sRegScoresRefusal (h .powers) (h .frequencies) (h .terms .capacity) (h .state) places ≡ unless (isState (h .state) && readingsFit (h .powers) (h .frequencies)) badReading 0
+  unfolding sRegScoresRefusal
+  scores-refusal f =
+      let l = long-of (unshifted h) places (f .lengths) in
+      rw (eq-eqb _ _ (l .of-powers), eq-eqb _ _ (l .of-frequencies), eq-eqb _ _ (l .of-places), f .capacity)
+
+  worked-number : terms ≡ 0 → workedNumber h places ≡ sRegRefusal h places
+  unfolding workedNumber
+  worked-number none =
+      rw (tests-last, none, scores-refusal (terms-fit (unshifted h) places none))
+      (by-test (areScores (h .earlier)) (λ (t : areScores (h .earlier) ≡ true). rw t) (λ (t : areScores (h .earlier) ≡ false). rw t))
+
+  pub worked-is : terms ≡ 0 → sRegWorked h places ≡ sRegAnswer h places
+  unfolding sRegWorked sRegAnswer
+  worked-is none = ap (λ (k : ℕ). kept k (grantedSReg h) (refusedSReg k)) (worked-number none)
+
+  pub terms-refuse : (terms ≡ 0 → ⊥) → sRegRefusal h places ≡ terms
+  terms-refuse n = tests-last ∙ or-first (inOrder (stateTests h)) n
+
+  -- ---- what the refusal decides
+
+  pub refusal-is : sRegAnswer h places .hour .refusal ≡ sRegRefusal h places
+  unfolding sRegAnswer settledOf grantedHour refusedHour
+  refusal-is =
+      let k = sRegRefusal h places in
+      by-test (eqb k 0) (λ (t : eqb k 0 ≡ true). rw t (sym (eqb-true k 0 t))) (λ (t : eqb k 0 ≡ false). rw t)
+
+  pub granted : sRegRefusal h places ≡ 0 → sRegAnswer h places ≡ grantedSReg h
+  unfolding sRegAnswer
+  granted e = kept-new _ _ e
+
+  pub refused-is : (sRegRefusal h places ≡ 0 → ⊥) → sRegAnswer h places ≡ refusedSReg (sRegRefusal h places)
+  unfolding sRegAnswer
+  refused-is n = kept-old _ _ n
+
+pub worked-left : (h : SRegHour) (run : List ℕ) → terms h (length run) ≡ 0 → sRegWorkedLeft h run ≡ sRegLeft h run
+unfolding sRegWorkedLeft sRegLeft
+worked-left h run none = ap (λ (k : ℕ). kept k (sRegScores h) run) (worked-number h (length run) none)
+
+pub scores-granted : (h : SRegHour) (run : List ℕ) → sRegRefusal h (length run) ≡ 0 → sRegLeft h run ≡ sRegScores h
+unfolding sRegLeft
+scores-granted h run e = kept-new _ _ e
+
+pub scores-refused : (h : SRegHour) (run : List ℕ) → (sRegRefusal h (length run) ≡ 0 → ⊥) → sRegLeft h run ≡ run
+unfolding sRegLeft
+scores-refused h run n = kept-old _ _ n
+
+-- an hour whose terms are refused is answered their number, and leaves its run
+pub terms-refused : (h : SRegHour) (run : List ℕ) {k : ℕ} {r : Settled} → k ≡ terms h (length run) → (k ≡ 0 → ⊥) → r ≡ refusedSReg k → (r ≡ sRegAnswer h (length run)) × (run ≡ sRegLeft h run)
+terms-refused h run e n answer =
+    let first = terms-refuse h (length run) (λ z. n (e ∙ z)) in
+    let some : (sRegRefusal h (length run) ≡ 0 → ⊥) = λ z. n (e ∙ sym first ∙ z) in
+    (answer ∙ ap refusedSReg (e ∙ sym first) ∙ sym (refused-is h (length run) some), sym (scores-refused h run some))
+
+pub scores-long : (h : SRegHour) (places : ℕ) → sRegRefusal h places ≡ 0 → length (sRegScores h) ≡ secondsOfHour
+unfolding sRegScores
+scores-long h places e =
+    let l = long-of (unshifted h) places (fit h places e .lengths) in
+    length-scores (h .state) (h .terms .capacity .0) (h .powers) (h .frequencies) (l .of-powers ∙ sym (l .of-frequencies)) ∙ l .of-powers
+
+-- an hour's amount lies far inside 64 bits: the limits of its inputs see to it
+pub hour-within : (h : SRegHour) (places : ℕ) → Within mostHourAmount (sRegAnswer h places .hour .amount .0)
+unfolding sRegAnswer settledOf grantedHour refusedHour
+hour-within h places =
+    kept-any (λ (r : Settled). Within mostHourAmount (r .hour .amount .0)) (sRegRefusal h places)
+    (λ e. amount-within _ _ _ (dollars (pos 0)) (omega arith)) (omega arith)
