@@ -71,6 +71,30 @@ small_after, small_settled, _ = stumbling(f"{award} {words(DISCHARGE, CHARGE, *[
 assert (alone_settled[1], after_settled[1], small_settled[1]) == (0, 94, 94)
 
 
+# ---- sReg hours (document 02, #103): document 001's table 2, and an event over the hour's end
+
+
+def static(powers, frequencies, earlier=(), state=(0, 0, 0)):
+    """An sReg hour's numbers after its terms, its answer, and its scores."""
+    settled, scores, ended = model.sreg_hour(powers, frequencies, [0] * 3600, (CAPACITY, CLEARING, PERFORMANCE), model.FACTORS, list(earlier), state)
+    columns = "".join(f"{p} {f}\n" for p, f in zip(powers, frequencies))
+    return f"{award} {list_s} {words(len(earlier), *earlier)} {words(*state)}\n{columns}", (*settled, *ended), scores
+
+
+table = [20000] * 11 + [30000] * 9 + [10000, 11000, 15000, 11000, 11000, 13000, 10500, 10000, 9000, 14000, 10000]
+event, event_settled, event_scores = static(table + [4000] * 10 + [10000] * 3559, model.at((10, 30)))
+assert event_scores[20:31] == [100, 90, 50, 90, 90, 70, 95, 100, 100, 60, 100]
+first, first_settled, first_scores = static([20000] * 3590 + [10500] * 8 + [20000] * 2, model.at((3580, 3600)))
+next_hour, next_settled, next_scores = static([20000] + [10000] * 3599, [59979] * 4 + [59980] + [60000] * 3595, first_scores[3597:], first_settled[8:])
+assert first_settled[8:] == (2, 20000, 0) and first_scores[3597:] == [95, 0, 0] and next_settled[1] == 95
+seconds = "0 60000 " * 3600
+
+
+def state(numbers, capacity=1):
+    """A question that is handed these three numbers for a state, and the refusal that it gets."""
+    return f"sreg {capacity} 0 0 1 0 0 0 {numbers} {seconds}", words(4 if capacity else 2, *[0] * 10)
+
+
 def rate(earlier, zeros):
     """The question for an hour of 100 with so many zeros first, and its answer."""
     scores = [0] * zeros + [100] * (3600 - zeros)
@@ -123,7 +147,17 @@ asked = [
     ("dreg 0 0 0 1 0 0 3 101 0 0 " + "0 0 " * 3600, words(2, *[0] * 7)),
     ("dreg 1 0 0 1 0 0 3 101 0 0 " + "0 60000 " * 3600, words(4, *[0] * 7)),
     ("edreg_scores " + "0 " * 10 + "0 2 101 0 " + "0 0 " * 3600, "1"),
+    ("sreg " + event, words(*event_settled)),
+    ("sreg_scores " + event, words(0, *event_scores)),
+    ("sreg " + first, words(*first_settled)),
+    ("sreg " + next_hour, words(*next_settled)),
+    ("sreg_scores " + next_hour, words(0, *next_scores)),
+    # no such kind, numbers that a kind does not use, counts and powers that fit no state; in 4's place
+    *map(state, ["4 0 0", "0 0 1", "1 0 10", "1 0 257", "2 200001 0", "2 0 1", "3 1 10"]),
+    state("4 0 0", 0),
+    ("sreg_scores 1 0 0 1 0 0 2 0 0 4 0 0 " + seconds, "1"),
     ("frame 0 31 0 0", frame(0, 31, 0, 0)),
+    ("sreg_frame 12 13 " + first, frame(1, 12, 13, first_settled[7])),
     ("dreg_frame 12 14 " + hour, frame(1, 12, 14, settled[7])),
     ("edreg_frame 12 15 " + moved_hour, frame(1, 12, 15, moved_settled[7])),
     ("edreg_frame 12 16 " + small_after, frame(1, 12, 16, small_settled[7])),
@@ -142,6 +176,8 @@ faults = [
     ("curve", "103 too few numbers"),
     ("rate 3 100 100", "103 too few numbers"),
     ("curve 1 2", "104 too many numbers"),
+    # an sReg hour without its state
+    ("sreg 1 0 0 0 0 " + seconds, "103 too few numbers"),
     ("curves 59920", "101 not a question"),
     ("fee 9223372036854775808 1", "102 a number too large for 64 bits"),
     ("curve 59.92", "105 not a number"),

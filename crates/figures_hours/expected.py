@@ -453,3 +453,189 @@ m = join("none, a zero", 0, some, 0, m, 3, 10)
 m = join("100 100 100, a zero", 0, some, 0, m, 3, 11, [100] * 3)
 m = join("two", 1, some, 0, m, 3, 12, [100] * 2)
 join("101, place filled", 4, some, 0, m, 3, 10, [100, 101, 100])
+
+
+# ---- static regulation (document 02, #103): by the list of seconds, without a state
+
+
+def percent(power, capacity):
+    return max(0, min(100, nearest(Fraction(100 * power, capacity))))
+
+
+def events(frequencies):
+    """Each event's first second and its last, None where it goes on; the seconds after one are outside or start the next."""
+    spans, i = [], 0
+    while i < len(frequencies):
+        if frequencies[i] <= 59880:
+            end = next((j for j in range(i + 1, len(frequencies)) if frequencies[j] >= 59980), None)
+            spans.append((i, end))
+            i = len(frequencies) if end is None else end
+        i += 1
+    return spans
+
+
+def sreg_scores(powers, frequencies, capacity):
+    scores = [percent(p, capacity) for p in powers]
+    for a, b in events(frequencies):
+        last = len(powers) - 1 if b is None else b
+        scores[a + 10 : last + 1] = [percent(powers[a] - p, capacity) for p in powers[a + 10 : last + 1]]
+        for i in [*range(a, min(a + 10, last + 1)), *range(last + 1, min(last + 11, len(powers)))]:
+            scores[i] = 100
+    return scores
+
+
+def state_after(powers, frequencies):
+    """As the desk prints it: kind, power, count."""
+    n, spans = len(powers), events(frequencies)
+    if not spans:
+        return 0, 0, 0
+    a, b = spans[-1]
+    if b is None:
+        return (1, powers[a], n - a) if n - a < 10 else (2, powers[a], 0)
+    return (3, 0, b + 11 - n) if n <= b + 10 else (0, 0, 0)
+
+
+def seconds_before(state):
+    """Some seconds that end in the state; None where there are none: the test is that they do."""
+    kind, power, count = state
+    n = [0, count, 10, max(2, 12 - count)][kind]
+    powers = [power] * n
+    frequencies = [59880, *[59979] * (n - 1)] if kind in (1, 2) else [59880, 59980, *[59881] * (n - 2)] if kind == 3 else []
+    fit = abs(power) <= 200000 and state_after(powers, frequencies[:n]) == state
+    return (powers, frequencies[:n]) if fit else None
+
+
+def sreg_hour(powers, frequencies, scores, terms, factors, earlier=[], state=(0, 0, 0)):
+    capacity, clearing, performance = terms
+    # 1, 2, 3, 5 and the earlier scores' 4 are dReg's
+    s, _ = hour([0] * len(powers), [60000] * len(frequencies), scores, (*terms, 0, 0, [0] * 5), THRESHOLDS, factors, earlier)
+    before = seconds_before(state)
+    if s[0] == 0 and (before is None or max(map(abs, powers)) > 200000 or min(frequencies) < 55000 or max(frequencies) > 65000):
+        s = [4]
+    if s[0] != 0:
+        return [s[0]] + [0] * 7, scores, (0, 0, 0)
+    powers, frequencies = before[0] + powers, before[1] + frequencies
+    scores = sreg_scores(powers, frequencies, capacity)[-3600:]
+    r = min(rolling(scores, earlier))
+    tenths = factor(THRESHOLDS, factors, r)[1]
+    first, second = fee(clearing, capacity)[1], fee(performance, capacity)[1]
+    part = quality(first, second, tenths)[1]
+    return [0, r, tenths, first, second, part, 0, part], scores, state_after(powers, frequencies)
+
+
+TERMS = 10000, 43000, 35000
+
+
+def sreg(label, powers, frequencies, terms=TERMS, first=10, earlier=[], state=(0, 0, 0), places=3600):
+    s, scores, ended = sreg_hour(powers, frequencies, [7] * places, terms, [first] + FACTORS[1:], earlier, state)
+    line(label, *s, mixed(scores), *ended)
+    return s, scores, ended
+
+
+def at(*spans):
+    """59,881 but for events, each from a second at 59,880 to one at 59,980."""
+    frequencies = [59881] * 3600
+    for a, b in spans:
+        frequencies[a : b + 1] = [59880, *[59979] * (b - a - 1), 59980]
+    return frequencies[:3600]
+
+
+line("document 001, table 2: an sReg event")
+MEGAWATTS = [10, 11, 15, 11, 11, 13, 10.5, 10, 9, 14, 10]
+powers = [20000] * 731 + [30000] * 9 + [int(1000 * mw) for mw in MEGAWATTS] + [0] * 10 + [20000] * 2839
+_, scores, _ = sreg("the hour", powers, at((730, 750)))
+assert scores[740:751] == ELEVEN and min(scores[:740] + scores[751:]) == 100
+line("scores", *scores[740:751])
+line("rolling", *rolling(scores)[740:751])
+
+line("document 02, #103: where an event ends")
+
+
+def last_seconds(label, powers, *spans):
+    _, scores, ended = sreg(label, powers, at(*spans))
+    line("scores", *scores[3584:])
+    return scores[3584:], ended
+
+
+powers = [10000] * 3581 + [0] * 10 + [4000] * 4 + [0] * 5
+assert last_seconds("an end second of 60", powers, (3580, 3594))[0][10] == 60
+six = [6000] * 3600
+for label, a, b, printed in [
+    ("59,980 in the second second", 3585, 3586, ([60] + [100] * 12 + [60] * 3, (0, 0, 0))),
+    ("in the tenth", 3585, 3594, ([60] + [100] * 15, (3, 0, 5))),
+    ("in the eleventh", 3585, 3595, ([60] + [100] * 10 + [0] + [100] * 4, (3, 0, 6))),
+    ("an event in the last second", 3599, 3600, ([60] * 15 + [100], (1, 6000, 1))),
+]:
+    assert last_seconds(label, six, (a, b)) == printed
+again = but(6000, 3587, 3588, 13000)
+assert last_seconds("a fall in the tenth second after", again, (3575, 3577), (3587, 3600)) == ([100] * 13 + [70] * 3, (2, 13000, 0))
+
+line("two sReg hours, one after the other")
+first = [20000] * 3590 + [10000] * 7 + [11000] + [20000] * 2
+second = [20000] + [10000] * 3 + [15000] + [0] * 10 + [10000] * 3585
+frequencies = [59979] * 4 + [59980] + [59881] * 3595
+_, scores, ended = sreg("the first", first, at((3580, 3600)))
+assert ended == (2, 20000, 0)
+assert scores[3597:] == [90, 0, 0]
+both_hours = sreg_scores(first + second, at((3580, 3600)) + frequencies, 10000)
+for label, earlier, state, r in [
+    ("the second", scores[3597:], ended, 90),
+    ("the second, no earlier scores", [], ended, 0),
+    ("the second, from outside", scores[3597:], (0, 0, 0), 0),
+]:
+    s, got, _ = sreg(label, second, frequencies, earlier=earlier, state=state)
+    line("scores", *got[:16])
+    assert s[1] == r and (got == both_hours[3600:]) == (state == ended)
+assert min(rolling(both_hours)[3600:]) == 90
+
+line("refused sReg hours: 1, 2, 3, 5, 4 in this order")
+run, short = [65001] * 3600, [0] * 3599
+for label, k, powers, frequencies, places in [
+    ("3,599 powers", 1, short, run, 3600),
+    ("3,599 frequencies", 1, run, short, 3600),
+    ("frequencies above", 4, run, run, 3600),
+    ("3,599 scores", 1, run, run, 3599),
+]:
+    assert sreg(label, powers, frequencies, places=places)[0][0] == k
+for label, k, capacity, clearing, first, last, earlier, state in [
+    ("none", 0, 10000, 43000, 10, 0, [], (0, 0, 0)),
+    ("two earlier scores", 1, 10000, 43000, 10, 0, [100] * 2, (0, 0, 0)),
+    ("capacity 0", 2, 0, 43000, 10, 0, [], (0, 0, 0)),
+    ("price below", 3, 10000, -1, 10, 0, [], (0, 0, 0)),
+    ("factor 11", 5, 10000, 43000, 11, 0, [], (0, 0, 0)),
+    ("a power above", 4, 10000, 43000, 10, 200001, [], (0, 0, 0)),
+    ("an earlier score of 101", 4, 10000, 43000, 10, 0, [100, 101, 100], (0, 0, 0)),
+    ("11 left, a power above, earlier scores of 101", 4, 10000, 43000, 10, 200001, [101] * 3, (3, 0, 11)),
+    ("and a factor", 5, 10000, 43000, 11, 200001, [101] * 3, (3, 0, 11)),
+    ("and a price", 3, 10000, -1, 11, 200001, [101] * 3, (3, 0, 11)),
+    ("and the capacity", 2, 0, -1, 11, 200001, [101] * 3, (3, 0, 11)),
+    ("and two earlier scores", 1, 0, -1, 11, 200001, [101] * 2, (3, 0, 11)),
+    ("responding, 0 scored", 4, 10000, 43000, 10, 0, [], (1, 10000, 0)),
+    ("responding, 9 scored", 0, 10000, 43000, 10, 0, [], (1, 10000, 9)),
+    ("responding, 10 scored", 4, 10000, 43000, 10, 0, [], (1, 10000, 10)),
+    ("responding, 200,000", 0, 10000, 43000, 10, 0, [], (1, 200000, 1)),
+    ("responding, 200,001", 4, 10000, 43000, 10, 0, [], (1, 200001, 1)),
+    ("holding, -200,000", 0, 10000, 43000, 10, 0, [], (2, -200000, 0)),
+    ("holding, -200,001", 4, 10000, 43000, 10, 0, [], (2, -200001, 0)),
+    ("recovering, 0 left", 4, 10000, 43000, 10, 0, [], (3, 0, 0)),
+    ("recovering, 10 left", 0, 10000, 43000, 10, 0, [], (3, 0, 10)),
+    ("recovering, 11 left", 4, 10000, 43000, 10, 0, [], (3, 0, 11)),
+]:
+    s, _, ended = sreg(label, [10000] * 3599 + [last], still, (capacity, clearing, 35000), first, earlier, state)
+    assert s[0] == k and (k == 0 or ended == (0, 0, 0))
+
+line("sReg joint calls")
+_, m = opened(30)
+for label, k, state, d, h in [
+    ("posted", 0, (0, 0, 0), 3, 10),
+    ("place filled", 7, (0, 0, 0), 3, 10),
+    ("day 0", 6, (0, 0, 0), 0, 10),
+    ("0 left, place filled", 4, (3, 0, 0), 3, 10),
+    ("another hour", 0, (3, 0, 1), 3, 11),
+]:
+    s, _, ended = sreg_hour([10000] * 3600, at((3599, 3600)), zeros, TERMS, FACTORS, [100] * 3, state)
+    if s[0] == 0:
+        s[0], m = m.post(d, h, s[7])
+        s, ended = (s, ended) if s[0] == 0 else ([s[0]] + [0] * 7, (0, 0, 0))
+    assert s[0] == k
+    line(label, *s, *ended, *m.hour(d, h), *m.total(), *m.standing())

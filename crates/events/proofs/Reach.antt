@@ -1,8 +1,8 @@
--- The test of a state is exact: it passes just where some fit hour that begins outside ends in the state. A run of fit seconds is put together one second after the other, by
--- induction on the seconds. And so an hour that is handed a state is the last 3,600 seconds of a run that begins outside. Assumes nothing.
+-- A fit run ends in a state that passes the test, and each state that passes has a run of fit seconds that leads to it, put together one second after the other; by induction on the seconds. So an
+-- hour that is handed a state is the last of a run that begins outside, and is told by its seconds. Assumes nothing.
 use Prim.Native.Nat.{ℕ, zero, suc, _+_, _-_, _≤_, _<_}
 use mathlib.Core.Path.{_≡_, refl, sym, ap, _∙_, subst}
-use mathlib.Core.Bool.{Bool, true, false}
+use mathlib.Core.Bool.{true}
 use mathlib.Core.List.{List, [], _∷_, _++_}
 use native.Mathlib.Nat.{le-of-suc-le-suc}
 use native.Mathlib.Omega.{arith}
@@ -12,22 +12,19 @@ use lib.Seq.{getD-append-add}
 use borrow.Author.Tests.{ne-eqb}
 use Rattle.whole.specs.Folds.{foldTo}
 use Rattle.whole.specs.Whole.{minus, inRange, allInRange}
-use Rattle.whole.proofs.Choice.{both, kept-any, passed-all}
 use Rattle.whole.proofs.Sums.{all-inside, inside-all}
-use Rattle.units.specs.Limits.{isFrequency, isPower, mostPower, arePowers, areFrequencies, secondsOfHour}
+use Rattle.units.specs.Limits.{isFrequency, isPower, mostPower, arePowers, secondsOfHour}
 use Rattle.units.specs.Units.{kilowatts}
 use Rattle.units.specs.declared.Kilowatts.{Kilowatts}
 use Rattle.sreg.specs.Second.{ends, isState, nextState, starts, unlessEnds, unlessStarts}
-use Rattle.sreg.specs.Run.{scoresFrom, stateAfter, sRegScoresRefusal, sRegEnded}
+use Rattle.sreg.specs.Run.{scoresFrom, stateAfter}
 use Rattle.sreg.specs.declared.EventState.{EventState}
 use Rattle.sreg.specs.declared.EventState.the-variants.{Outside, Responding, Holding, Recovering}
-use Rattle.sreg.specs.declared.Ended.{Ended}
-use Rattle.sreg.proofs.States.{Responds, responds, recovers, next-is}
+use Rattle.sreg.proofs.States.{responds, recovers, next-is}
 use Rattle.sreg.proofs.Seconds.{state-cut, scores-cut, length-scores}
-use Rattle.sreg.proofs.Laws.{scores-fit, fit-scores, ended-granted}
-use Rattle.events.specs.Events.{atSecond, ScoreTold}
-use Rattle.events.specs.States.{LeadsTo, Ends}
-use Rattle.events.proofs.Seconds.{every-second}
+use Rattle.events.specs.Events.{ScoreTold, Sentences}
+use Rattle.events.specs.States.{Stands, LeadsTo}
+use Rattle.events.proofs.Seconds.{sentences, run-stands}
 
 -- ---- a fit run ends in a state that passes
 
@@ -115,46 +112,35 @@ run-to n (Recovering left) e t =
     subst (λ (m : ℕ). LeadsTo m (Recovering left)) l
     (subst (λ (m : ℕ). LeadsTo ((10 - left) + (11 + (n - (21 - left)))) (Recovering m)) k (in-recovery (n - (21 - left)) (10 - left) (omega arith)))
 
--- ---- the test, by the answers to hours
-
-pub passing-ends : (state : EventState) → isState state ≡ true → Ends state
-unfolding inRange
-passing-ends state t =
-    let r = run-to secondsOfHour state refl t in
-    let one = kilowatts (pos 1) in
-    let fit = fit-scores (r .powers) (r .frequencies) one Outside secondsOfHour
-    (record { long-powers = r .long-powers; long-frequencies = r .long-frequencies; long-places = refl; capacity-fits = refl; state-fits = refl })
-    (r .fit-powers) (r .fit-frequencies) in
-    record {
-      powers = r .powers;
-      frequencies = r .frequencies;
-      capacity = one;
-      answer = ended-granted (r .powers) (r .frequencies) one Outside secondsOfHour fit ∙ ap (λ (s : EventState). record { refusal = 0; state = s }) (r .ends-in);
-    }
-
--- an answer can always be handed on, whatever was handed in
-pub answer-passes : (powers frequencies : List ℤ) (capacity : Kilowatts) (state : EventState) (places : ℕ) → isState (sRegEnded powers frequencies capacity state places .state) ≡ true
-unfolding sRegEnded
-answer-passes powers frequencies capacity state places =
-    kept-any (λ (s : EventState). isState s ≡ true) (sRegScoresRefusal powers frequencies capacity state places)
-    (λ e. let f = scores-fit powers frequencies capacity state places e in after-passes state powers frequencies (f .0 .state-fits) (f .1))
-    refl
-
-pub ends-passing : (state : EventState) → Ends state → isState state ≡ true
-ends-passing state e = rw (e .answer) at (answer-passes (e .powers) (e .frequencies) (e .capacity) Outside secondsOfHour)
-
 -- ---- an hour that is handed a state, as the last seconds of a run that begins outside
 
 module _ (state : EventState) {n : ℕ} (r : LeadsTo n state) (capacity : ℤ) (powers frequencies : List ℤ) (same : length powers ≡ length frequencies) where
-  pub handed-score : (i : ℕ) → getD (scoresFrom Outside capacity (r .powers ++ powers) (r .frequencies ++ frequencies)) (n + i) 0 ≡ getD (scoresFrom state capacity powers frequencies) i 0
-  handed-score i =
+  score-at : (i : ℕ) → getD (scoresFrom Outside capacity (r .powers ++ powers) (r .frequencies ++ frequencies)) (n + i) 0 ≡ getD (scoresFrom state capacity powers frequencies) i 0
+  score-at i =
       let even = r .long-powers ∙ sym (r .long-frequencies) in
       let long = length-scores Outside capacity (r .powers) (r .frequencies) even ∙ r .long-powers in
-      rw (scores-cut Outside capacity (r .powers) (r .frequencies) powers frequencies even, r .ends-in, sym long) (getD-append-add (scoresFrom Outside capacity (r .powers) (r .frequencies)) (scoresFrom state capacity powers frequencies) i 0)
+      rw (scores-cut Outside capacity (r .powers) (r .frequencies) powers frequencies even, r .ends-in, sym long)
+      (getD-append-add (scoresFrom Outside capacity (r .powers) (r .frequencies)) (scoresFrom state capacity powers frequencies) i 0)
 
-  pub handed-told : (i : ℕ) → i < length powers → ScoreTold (r .powers ++ powers) (r .frequencies ++ frequencies) capacity (n + i) (getD (scoresFrom state capacity powers frequencies) i 0)
-  handed-told i l =
+  whole : Sentences (r .powers ++ powers) (r .frequencies ++ frequencies) capacity (scoresFrom Outside capacity (r .powers ++ powers) (r .frequencies ++ frequencies))
+  whole =
       let lp = r .long-powers in
       let lf = r .long-frequencies in
-      subst (ScoreTold (r .powers ++ powers) (r .frequencies ++ frequencies) capacity (n + i)) (handed-score i)
-      (every-second (r .powers ++ powers) (r .frequencies ++ frequencies) capacity (simp length-append (omega arith)) (n + i) (simp length-append (omega arith)))
+      sentences (r .powers ++ powers) (r .frequencies ++ frequencies) capacity (simp length-append (omega arith))
+
+  inside : (i : ℕ) → i < length powers → n + i < length (r .powers ++ powers)
+  inside i l = let lp = r .long-powers in simp length-append (omega arith)
+
+  pub handed-every : (i : ℕ) → i < length powers → ScoreTold (r .powers ++ powers) (r .frequencies ++ frequencies) capacity (n + i) (getD (scoresFrom state capacity powers frequencies) i 0)
+  handed-every i l = subst (ScoreTold (r .powers ++ powers) (r .frequencies ++ frequencies) capacity (n + i)) (score-at i) (whole .every (n + i) (inside i l))
+
+  pub handed-only : (i x : ℕ) → i < length powers → ScoreTold (r .powers ++ powers) (r .frequencies ++ frequencies) capacity (n + i) x → getD (scoresFrom state capacity powers frequencies) i 0 ≡ x
+  handed-only i x l t = sym (score-at i) ∙ whole .only (n + i) x (inside i l) t
+
+  pub handed-stands : (m : ℕ) → length powers ≡ m → Stands (r .powers ++ powers) (r .frequencies ++ frequencies) (n + m) (stateAfter state powers frequencies)
+  handed-stands m e =
+      let lp = r .long-powers in
+      let lf = r .long-frequencies in
+      subst (Stands (r .powers ++ powers) (r .frequencies ++ frequencies) (n + m))
+      (state-cut Outside (r .powers) (r .frequencies) powers frequencies (lp ∙ sym lf) ∙ ap (λ (s : EventState). stateAfter s powers frequencies) (r .ends-in))
+      (run-stands (r .powers ++ powers) (r .frequencies ++ frequencies) (n + m) (simp length-append (omega arith)) (simp length-append (omega arith)))

@@ -1,5 +1,6 @@
 -- EACH SECOND BY THE REQUEST'S SENTENCES (document 02, #103): every second of a run that begins outside is told by one of them, and no two of them tell a second different scores; so the
--- sentences over the list of seconds, with no state in them, say just what the scores are. By induction on the seconds: the state before a second says which sentence tells it. Assumes nothing.
+-- sentences over the list of seconds, with no state in them, say just what the scores are, and the state after a run is told by its seconds too. By induction on the seconds: the state before a
+-- second says which sentence tells it. Assumes nothing.
 use Prim.Native.Nat.{ℕ, zero, suc, _+_, _-_, _≤_, _<_}
 use mathlib.Core.Path.{_≡_, refl, sym, _∙_, subst}
 use mathlib.Core.Bool.{Bool, true, false}
@@ -7,8 +8,9 @@ use mathlib.Core.List.{List}
 use native.Mathlib.Numerals.{add-one}
 use native.Mathlib.Omega.{arith}
 use lib.Dec.{eqb, leb}
-use lib.IntN.{ℤ, pos}
+use lib.IntN.{ℤ}
 use lib.ListN.{length, getD, take}
+use lib.Seq.{take-all}
 use borrow.Author.Tests.{eqb-true, eqb-false, leb-true, leb-false}
 use Rattle.whole.proofs.Choice.{by-test, clash}
 use Rattle.whole.proofs.Signed.{signed}
@@ -16,9 +18,10 @@ use Rattle.units.specs.Units.{kilowatts}
 use Rattle.sreg.specs.Second.{starts, ends, scoreIn, unlessStarts, unlessEnds, nextState}
 use Rattle.sreg.specs.Run.{scoresFrom, stateAfter}
 use Rattle.sreg.specs.declared.EventState.{EventState}
-use Rattle.sreg.specs.declared.EventState.the-variants.{Outside, Responding, Holding, Recovering}
+use Rattle.sreg.specs.declared.EventState.the-variants.{Outside, Responding, Recovering}
 use Rattle.sreg.proofs.Seconds.{score-at, state-none, state-step}
 use Rattle.events.specs.Events.{atSecond, Returned, StartsEvent, GoesOn, EndsIn, OutsideEvents, ScoreTold, first-ten, judged, ten-after, outside, Sentences}
+use Rattle.events.specs.States.{Stands, by-outside, by-start, by-event, by-end}
 
 -- no frequency both starts an event and ends one
 never-both : (f : ℤ) → starts f ≡ true → ends f ≡ true → ⊥
@@ -42,13 +45,8 @@ module _ (powers frequencies : List ℤ) where
   by-then : {j i m : ℕ} → Returned frequencies j i → i ≤ m → Returned frequencies j m
   by-then r l = record { second = r .second; after = r .after; before = omega (arith, r .before); reaches = r .reaches }
 
-  -- WHERE A SECOND STANDS, by the seconds before it: the state that they end in, told by the list of seconds
-  data Stands (i : ℕ) : EventState → Type 0 where
-    by-outside : ((j : ℕ) → j < i → falls-at j ≡ true → Returned frequencies j (i - 10)) → Stands i Outside
-    by-start : (a k : ℕ) → StartsEvent frequencies a → a + k ≡ i → 1 ≤ k → k ≤ 9 → GoesOn frequencies a i → Stands i (Responding (kilowatts (atSecond powers a)) k)
-    by-event : (a : ℕ) → StartsEvent frequencies a → a + 10 ≤ i → GoesOn frequencies a i → Stands i (Holding (kilowatts (atSecond powers a)))
-    by-end : (a b left : ℕ) → StartsEvent frequencies a → EndsIn frequencies a b → i + left ≡ b + 11 → 1 ≤ left → left ≤ 10
-        → ((j : ℕ) → b < j → j < i → falls-at j ≡ false) → Stands i (Recovering left)
+  abbrev Here : ℕ → EventState → Type 0
+  Here = Stands powers frequencies
 
   -- ---- one second more
 
@@ -56,11 +54,11 @@ module _ (powers frequencies : List ℤ) where
   goes-on {a} {i} g e = λ j l m. one-more (λ (j : ℕ). a < j → ends-at j ≡ false) i (λ j m l. g j l m) (λ l. e) j m l
 
   -- an event starts in a second before which none is going on
-  starts-in : (i : ℕ) → falls-at i ≡ true → ((j : ℕ) → j < i → falls-at j ≡ true → Returned frequencies j i) → Stands (suc i) (Responding (kilowatts (atSecond powers i)) 1)
+  starts-in : (i : ℕ) → falls-at i ≡ true → ((j : ℕ) → j < i → falls-at j ≡ true → Returned frequencies j i) → Here (suc i) (Responding (kilowatts (atSecond powers i)) 1)
   starts-in i f none = by-start i 1 (record { falls = f; none = none }) (omega arith) (omega arith) (omega arith) (λ j l m. absurd (omega arith))
 
   -- and ends in one that is at or above 59.98 Hz
-  ends-in : (a i : ℕ) → StartsEvent frequencies a → a < i → GoesOn frequencies a i → ends-at i ≡ true → Stands (suc i) (Recovering 10)
+  ends-in : (a i : ℕ) → StartsEvent frequencies a → a < i → GoesOn frequencies a i → ends-at i ≡ true → Here (suc i) (Recovering 10)
   ends-in a i s l g e = by-end a i 10 s (record { later = l; goes-on = g; reaches = e }) (omega arith) (omega arith) (omega arith) (λ j l m. absurd (omega arith))
 
   -- after an event that ended in second b, with no fall since: what fell before was followed by b
@@ -73,7 +71,7 @@ module _ (powers frequencies : List ℤ) where
       (λ (u : eqb j b ≡ false). record { second = b; after = omega (arith, leb-true j b t, eqb-false j b u); before = omega arith; reaches = e .reaches }))
       (λ (t : leb j b ≡ false). clash (sym (none j (omega (arith, leb-false j b t)) m) ∙ f))
 
-  next : (i : ℕ) (s : EventState) → Stands i s → Stands (suc i) (nextState s (atSecond powers i) (atSecond frequencies i))
+  next : (i : ℕ) (s : EventState) → Here i s → Here (suc i) (nextState s (atSecond powers i) (atSecond frequencies i))
   unfolding unlessStarts unlessEnds
   next i _ (by-outside over) =
       by-test (falls-at i)
@@ -100,16 +98,16 @@ module _ (powers frequencies : List ℤ) where
       (λ (u : eqb left 1 ≡ true). rw u (by-outside (λ j m f. by-then (followed e (omega arith) quiet j m f) (omega (arith, eqb-true left 1 u)))))
       (λ (u : eqb left 1 ≡ false). rw u (by-end a b (left - 1) s e (omega arith) (omega (arith, eqb-false left 1 u)) (omega arith) quiet))))
 
-  stands : (i : ℕ) → length powers ≡ length frequencies → i ≤ length powers → Stands i (stateAfter Outside (take i powers) (take i frequencies))
-  stands zero e l = subst (Stands 0) (state-none Outside powers frequencies) (by-outside (λ j m f. absurd (omega arith)))
+  stands : (i : ℕ) → length powers ≡ length frequencies → i ≤ length powers → Here i (stateAfter Outside (take i powers) (take i frequencies))
+  stands zero e l = subst (Here 0) (state-none Outside powers frequencies) (by-outside (λ j m f. absurd (omega arith)))
   stands (suc i) e l =
-      subst (Stands (suc i)) (sym (rw add-one at (state-step Outside powers frequencies i e l)))
+      subst (Here (suc i)) (sym (rw add-one at (state-step Outside powers frequencies i e l)))
       (next i (stateAfter Outside (take i powers) (take i frequencies)) (stands i e (omega arith)))
 
   -- ---- its score
 
   module _ (capacity : ℤ) where
-    told-by : (i : ℕ) (s : EventState) → Stands i s → ScoreTold powers frequencies capacity i (scoreIn s (atSecond powers i) (atSecond frequencies i) capacity)
+    told-by : (i : ℕ) (s : EventState) → Here i s → ScoreTold powers frequencies capacity i (scoreIn s (atSecond powers i) (atSecond frequencies i) capacity)
     told-by i _ (by-outside over) =
         by-test (falls-at i)
         (λ (t : falls-at i ≡ true). rw t (first-ten i (record { falls = t; none = λ j l f. by-then (over j l f) (omega arith) }) (omega arith) (omega arith)))
@@ -182,11 +180,9 @@ module _ (powers frequencies : List ℤ) where
 
     -- THE SENTENCES, of a run that begins outside
     pub sentences : length powers ≡ length frequencies → Sentences powers frequencies capacity (scoresFrom Outside capacity powers frequencies)
-    sentences e =
-        record {
-          first-ten-100 = λ a i s l m n. one-score (every-second e i n) (first-ten a s l m);
-          judged-by-start = λ a i s l g n. one-score (every-second e i n) (judged a s l g);
-          ten-after-100 = λ a b i s f l m n. one-score (every-second e i n) (ten-after a b s f l m);
-          outside-own = λ i o n. one-score (every-second e i n) (outside o);
-          every = every-second e;
-        }
+    sentences e = record { every = every-second e; only = λ i x l t. one-score (every-second e i l) t }
+
+-- and where the whole run leaves it
+pub run-stands : (powers frequencies : List ℤ) (n : ℕ) → length powers ≡ n → length frequencies ≡ n → Stands powers frequencies n (stateAfter Outside powers frequencies)
+run-stands powers frequencies n p f =
+    subst (Stands powers frequencies n) (rw (take-all n powers (omega arith), take-all n frequencies (omega arith))) (stands powers frequencies n (p ∙ sym f) (omega arith))

@@ -50,11 +50,7 @@ pub data ScoreTold (powers frequencies : List ℤ) (capacity : ℤ) (i : ℕ) : 
   -- "Outside events the score is this second's power as a percent"
   outside : OutsideEvents frequencies i → ScoreTold powers frequencies capacity i (percentOf (atSecond powers i) capacity)
 
--- THE SENTENCES, of a run and its scores; each second is told by one of them (proofs/Seconds.antt)
+-- THE SENTENCES, of a run and its scores: each second is told by one of them, and whatever one of them tells of a second is its score
 pub record Sentences (powers frequencies : List ℤ) (capacity : ℤ) (scores : List ℕ) : Type 0 where
-  pub first-ten-100 : (a i : ℕ) → StartsEvent frequencies a → a ≤ i → i < a + 10 → i < length powers → getD scores i 0 ≡ mostScore
-  pub judged-by-start : (a i : ℕ) → StartsEvent frequencies a → a + 10 ≤ i → GoesOn frequencies a i → i < length powers
-      → getD scores i 0 ≡ percentOf (atSecond powers a -ℤ atSecond powers i) capacity
-  pub ten-after-100 : (a b i : ℕ) → StartsEvent frequencies a → EndsIn frequencies a b → b < i → i ≤ b + 10 → i < length powers → getD scores i 0 ≡ mostScore
-  pub outside-own : (i : ℕ) → OutsideEvents frequencies i → i < length powers → getD scores i 0 ≡ percentOf (atSecond powers i) capacity
   pub every : (i : ℕ) → i < length powers → ScoreTold powers frequencies capacity i (getD scores i 0)
+  pub only : (i x : ℕ) → i < length powers → ScoreTold powers frequencies capacity i x → getD scores i 0 ≡ x

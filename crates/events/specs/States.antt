@@ -1,18 +1,31 @@
--- What the exactness of a state's test (proofs/Reach.antt) is stated in: a run of fit seconds that begins outside and ends in a state, and an hour that is let through and does.
-use Prim.Native.Nat.{ℕ}
+-- THE STATES BY THE LIST OF SECONDS (document 02, #103): what the state before a second says of the seconds before it; and seconds that lead to a state.
+use Prim.Native.Nat.{ℕ, _+_, _-_, _≤_, _<_}
 use mathlib.Core.Path.{_≡_}
-use mathlib.Core.Bool.{true}
+use mathlib.Core.Bool.{true, false}
 use mathlib.Core.List.{List}
 use lib.IntN.{ℤ}
 use lib.ListN.{length}
-use Rattle.units.specs.Limits.{arePowers, areFrequencies, secondsOfHour}
-use Rattle.units.specs.declared.Kilowatts.{Kilowatts}
-use Rattle.sreg.specs.Run.{stateAfter, sRegEnded}
+use Rattle.units.specs.Limits.{arePowers, areFrequencies}
+use Rattle.units.specs.Units.{kilowatts}
+use Rattle.sreg.specs.Second.{starts}
+use Rattle.sreg.specs.Run.{stateAfter}
 use Rattle.sreg.specs.declared.EventState.{EventState}
-use Rattle.sreg.specs.declared.EventState.the-variants.{Outside}
-use Rattle.sreg.specs.declared.Ended.{Ended}
+use Rattle.sreg.specs.declared.EventState.the-variants.{Outside, Responding, Holding, Recovering}
+use Rattle.events.specs.Events.{atSecond, Returned, StartsEvent, GoesOn, EndsIn}
 
--- n seconds
+-- where the seconds before second i leave it
+pub data Stands (powers frequencies : List ℤ) (i : ℕ) : EventState → Type 0 where
+  -- each second that fell was followed, more than ten seconds ago, by one at or above 59.98 Hz
+  by-outside : ((j : ℕ) → j < i → starts (atSecond frequencies j) ≡ true → Returned frequencies j (i - 10)) → Stands powers frequencies i Outside
+  -- "responding, with the start second's power and how many seconds of the first ten have been scored"
+  by-start : (a k : ℕ) → StartsEvent frequencies a → a + k ≡ i → 1 ≤ k → k ≤ 9 → GoesOn frequencies a i → Stands powers frequencies i (Responding (kilowatts (atSecond powers a)) k)
+  -- "holding, with the start power"
+  by-event : (a : ℕ) → StartsEvent frequencies a → a + 10 ≤ i → GoesOn frequencies a i → Stands powers frequencies i (Holding (kilowatts (atSecond powers a)))
+  -- "recovering, with the seconds left", and no second has fallen since the event ended
+  by-end : (a b left : ℕ) → StartsEvent frequencies a → EndsIn frequencies a b → i + left ≡ b + 11 → 1 ≤ left → left ≤ 10
+      → ((j : ℕ) → b < j → j < i → starts (atSecond frequencies j) ≡ false) → Stands powers frequencies i (Recovering left)
+
+-- n fit seconds that begin outside and end in the state
 pub record LeadsTo (n : ℕ) (state : EventState) : Type 0 where
   pub powers : List ℤ
   pub frequencies : List ℤ
@@ -21,9 +34,3 @@ pub record LeadsTo (n : ℕ) (state : EventState) : Type 0 where
   pub fit-powers : arePowers powers ≡ true
   pub fit-frequencies : areFrequencies frequencies ≡ true
   pub ends-in : stateAfter Outside powers frequencies ≡ state
-
-pub record Ends (state : EventState) : Type 0 where
-  pub powers : List ℤ
-  pub frequencies : List ℤ
-  pub capacity : Kilowatts
-  pub answer : sRegEnded powers frequencies capacity Outside secondsOfHour ≡ record { refusal = 0; state = state }

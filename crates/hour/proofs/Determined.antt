@@ -11,8 +11,8 @@ use Rattle.hour.proofs.refused_hour.Reads as refused-hour-reads
 use Rattle.hour.proofs.refused_hour.Kinds as refused-hour-kinds
 use Rattle.hour.proofs.terms_refusal.Reads as terms-refusal-reads
 use Rattle.hour.proofs.terms_refusal.Kinds as terms-refusal-kinds
-use Rattle.hour.proofs.settled_by_scores.Reads as settled-by-scores-reads
-use Rattle.hour.proofs.settled_by_scores.Kinds as settled-by-scores-kinds
+use Rattle.hour.proofs.settled_at.Reads as settled-at-reads
+use Rattle.hour.proofs.settled_at.Kinds as settled-at-kinds
 
 hour-determined : Determined 6 hour-kinds.ps hour-kinds.r hour-reads.Post
 hour-determined κs a x y s t p q = p .0 ∙ sym (q .0)
@@ -32,5 +32,5 @@ refused-hour-determined κs a x y s t p q = p ∙ sym q
 terms-refusal-determined : Determined 2 terms-refusal-kinds.ps terms-refusal-kinds.r terms-refusal-reads.Post
 terms-refusal-determined κs a x y s t p q = p ∙ sym q
 
-settled-by-scores-determined : Determined 4 settled-by-scores-kinds.ps settled-by-scores-kinds.r settled-by-scores-reads.Post
-settled-by-scores-determined κs a x y s t p q = p ∙ sym q
+settled-at-determined : Determined 2 settled-at-kinds.ps settled-at-kinds.r settled-at-reads.Post
+settled-at-determined κs a x y s t p q = p ∙ sym q

@@ -1,16 +1,16 @@
 -- An hour's inputs fit just where its refusal is 0; the core is the hour where the terms are let through; and what the refusal decides of the answer
 -- and of the lent run. By the lists of tests. Assumes nothing.
-use Prim.Native.Nat.{ℕ, _<_}
+use Prim.Native.Nat.{ℕ, _≤_, _<_}
 use mathlib.Core.Path.{_≡_, refl, sym, ap, _∙_}
 use mathlib.Core.Bool.{true, false, _&&_}
 use mathlib.Core.List.{List, _++_}
 use native.Mathlib.Omega.{arith}
-use lib.Dec.{eqb}
+use lib.Dec.{eqb, leb}
 use lib.IntN.{ℤ, pos, _+ℤ_}
 use lib.ListN.{length, getD, length-replicate, getD-replicate}
 use mir.Syntax.{w64}
 use mir.Val.{SFits}
-use borrow.Author.Tests.{eqb-true, eq-eqb}
+use borrow.Author.Tests.{eqb-true, eq-eqb, le-leb}
 use Rattle.whole.specs.Choice.{unless, orElse, inOrder}
 use Rattle.whole.specs.Whole.{minus, Within}
 use Rattle.whole.proofs.Choice.{and-both, by-test, all-passed, passed-all, in-order-then, or-first, or-rest, kept-new, kept-old, kept-any}
@@ -18,7 +18,7 @@ use Rattle.whole.proofs.Runs.{length-listed}
 use Rattle.whole.proofs.Signed.{within-fits}
 use Rattle.whole.proofs.Sums.{within-in, inside-all}
 use Rattle.units.specs.Refusals.{badReading}
-use Rattle.units.specs.Limits.{isCapacity, areTransfers, mostTransfer, mostAmount, isAmount, secondsOfHour}
+use Rattle.units.specs.Limits.{isCapacity, isPrice, mostScore, areTransfers, mostTransfer, mostAmount, isAmount, secondsOfHour}
 use Rattle.units.specs.declared.Dollars.{Dollars}
 use Rattle.ramp.proofs.Laws.{plan-at, length-plan, plan-inside}
 use Rattle.bands.specs.Bands.{bandsFit, bandsRefusal}
@@ -26,9 +26,10 @@ use Rattle.score.specs.Run.{runRefusal, runScores}
 use Rattle.rate.specs.Rolling.{earlierFit, areScores}
 use Rattle.fees.specs.Fees.{qualityAnswer, mostEnergyFee, mostHourAmount}
 use Rattle.fees.proofs.Laws.{energy-within, amount-within}
-use Rattle.hour.specs.Hour.{termsRefusal, Service, dReg, eDReg, WholeHour, transfersOf, energyOf, energyPricesFit, targetsFit, secondsFit, lengthsFit, readingsFit, testsOf, readingsTests, hourRefusal, scoresOf, scoresLeft, grantedHour, settledOf, refusedHour, rateOf, hourAnswer}
+use Rattle.hour.specs.Hour.{termsRefusal, atTests, atRefusal, Service, dReg, eDReg, WholeHour, transfersOf, energyOf, energyPricesFit, targetsFit, secondsFit, lengthsFit, readingsFit, testsOf, readingsTests, hourRefusal, scoresOf, scoresLeft, grantedHour, settledOf, refusedHour, rateOf, hourAnswer}
 use Rattle.hour.specs.Accepted.{transferIn, HourFits}
 use Rattle.hour.specs.Inner.{workedRefusal, workedOf, workedLeft}
+use Rattle.hour.specs.declared.Terms.{Terms}
 use Rattle.hour.specs.declared.Settlement.{Settlement}
 
 -- ---- the tests
@@ -192,6 +193,31 @@ terms-refused h run e n answer =
     let first = terms-refuse h (length run) (λ z. n (e ∙ z)) in
     let some : (hourRefusal h (length run) ≡ 0 → ⊥) = λ z. n (e ∙ sym first ∙ z) in
     (answer ∙ ap refusedHour (e ∙ sym first) ∙ sym (hour-refused h (length run) some), sym (scores-refused h run some))
+
+-- ---- an hour by its rate alone
+
+-- its refusals are those of the terms, its runs being as long as they are to be, and then the rate's
+pub at-last : (terms : Terms) (thresholds factors : List ℤ) (rate n : ℕ) → n ≡ secondsOfHour
+    → orElse (termsRefusal n n 0 n terms thresholds factors true true) (unless (leb rate mostScore) badReading 0) ≡ atRefusal terms thresholds factors rate
+unfolding termsRefusal atRefusal
+at-last terms ts fs rate n e =
+    let capacity = isCapacity (terms .capacity .0) in
+    let prices = isPrice (terms .clearing) && isPrice (terms .performance) in
+    rw (eq-eqb n secondsOfHour e)
+    (by-test capacity
+    (λ (c : capacity ≡ true).
+    by-test prices
+    (λ (p : prices ≡ true).
+    by-test (bandsFit ts fs) (λ (b : bandsFit ts fs ≡ true). rw (c, p, b)) (λ (b : bandsFit ts fs ≡ false). rw (c, p, b)))
+    (λ (p : prices ≡ false). rw (c, p)))
+    (λ (c : capacity ≡ false). rw c))
+
+-- an hour that fits is not refused by its rate alone
+pub at-fits : (h : WholeHour) (places rate : ℕ) → HourFits h places → rate ≤ mostScore → atRefusal (h .terms) (h .thresholds) (h .factors) rate ≡ 0
+unfolding atRefusal
+at-fits h places rate f l =
+    let prices = and-both (isPrice (h .terms .clearing) && isPrice (h .terms .performance)) (energyPricesFit (h .service)) (f .prices) .0 in
+    passed-all (atTests (h .terms) (h .thresholds) (h .factors) rate) (f .capacity, (prices, (f .bands, (le-leb rate mostScore l, tt))))
 
 -- ---- an hour's amount lies far inside the ledger's range: the limits of its inputs see to it
 

@@ -3,15 +3,18 @@ use Prim.Native.Nat.{ℕ}
 use mathlib.Core.Path.{_≡_, refl}
 use mathlib.Core.List.{List}
 use lib.ListN.{length}
-use Rattle.whole.specs.Refused.{RefusedKeeps}
+use denote.Ref.{now}
+use Rattle.whole.specs.Refused.{RefusedKeeps, RefusedBare}
 use Rattle.whole.proofs.Refused.{refused-bare, refused-left}
-use Rattle.hour.specs.Hour.{WholeHour, energyOf, hourRefusal, scoresOf, grantedHour, settledOf, refusedHour, rateOf, hourAnswer, scoresLeft}
+use Rattle.hour.specs.Hour.{WholeHour, energyOf, hourRefusal, scoresOf, grantedHour, settledOf, refusedHour, rateOf, hourAnswer, scoresLeft, atRefusal, settledAt}
 use Rattle.hour.specs.declared.Settlement.{Settlement}
 use Rattle.hour.specs.Calls.{hourRun, dRegRun}
 use Rattle.hour.proofs.hour.Reads as hour-reads
 use Rattle.hour.proofs.hour.Kinds as hour-kinds
 use Rattle.hour.proofs.dreg_hour.Reads as dreg-hour-reads
 use Rattle.hour.proofs.dreg_hour.Kinds as dreg-hour-kinds
+use Rattle.hour.proofs.settled_at.Reads as settled-at-reads
+use Rattle.hour.proofs.settled_at.Kinds as settled-at-kinds
 
 abbrev number : Settlement → ℕ
 number r = r .refusal
@@ -30,3 +33,8 @@ hour-refused-keeps κs a r s p f = keeps _ _ _ r (p .0) (p .1) f
 
 dreg-hour-refused-keeps : RefusedKeeps 6 dreg-hour-kinds.ps dreg-hour-kinds.r (λ κs r. number r) (λ κs a k. refusedHour k) dRegRun dRegRun dreg-hour-reads.Post
 dreg-hour-refused-keeps κs a r s p f = keeps _ _ _ r (p .0) (p .1) f
+
+settled-at-refused-keeps : RefusedBare 2 settled-at-kinds.ps settled-at-kinds.r (λ κs r. number r) (λ κs a k. refusedHour k) settled-at-reads.Post
+unfolding settledAt settledOf grantedHour refusedHour
+settled-at-refused-keeps κs a r s p f =
+    refused-bare number refusedHour (atRefusal (a .0) (now (a .1 .0)) (now (a .1 .1 .0)) (a .1 .1 .1 .0)) _ refl refl p f

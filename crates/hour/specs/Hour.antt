@@ -3,12 +3,12 @@
 use Prim.Native.Nat.{ℕ}
 use mathlib.Core.Bool.{Bool, true, _&&_}
 use mathlib.Core.List.{List, [], _∷_, _++_}
-use lib.Dec.{eqb}
+use lib.Dec.{eqb, leb}
 use lib.IntN.{ℤ, pos, _+ℤ_}
 use lib.ListN.{length, take, drop, replicate}
 use Rattle.whole.specs.Choice.{inOrder, kept}
 use Rattle.units.specs.Refusals.{wrongLength, badCapacity, badMoney, badBands, badTransfer, badReading}
-use Rattle.units.specs.Limits.{isCapacity, isPrice, arePowers, areFrequencies, areTransfers, secondsOfHour}
+use Rattle.units.specs.Limits.{isCapacity, isPrice, arePowers, areFrequencies, areTransfers, mostScore, secondsOfHour}
 use Rattle.units.specs.Units.{dollars}
 use Rattle.units.specs.declared.Dollars.{Dollars}
 use Rattle.ramp.specs.Ramp.{planOf}
@@ -155,6 +155,19 @@ settledOf terms thresholds factors energy rate =
     let performance = feeAnswer (terms .performance) (terms .capacity) .dollars in
     let quality = qualityAnswer capacity performance factor .dollars in
     grantedHour rate factor capacity performance quality energy (dollars (quality .0 +ℤ energy .0))
+
+-- an hour that shifts nothing, by its rate alone (document 02, #103: "Rolling rule and fees are dReg's"). "Order. Hour, and calls for a part of its work": 2, 3, 5, 4
+abbrev pub atTests : Terms → List ℤ → List ℤ → ℕ → List (Bool × ℕ)
+atTests terms thresholds factors rate =
+    (isCapacity (terms .capacity .0), badCapacity) ∷ (isPrice (terms .clearing) && isPrice (terms .performance), badMoney) ∷ (bandsFit thresholds factors, badBands) ∷ (leb rate mostScore, badReading) ∷ []
+
+unfoldable pub atRefusal : Terms → List ℤ → List ℤ → ℕ → ℕ
+atRefusal terms thresholds factors rate = inOrder (atTests terms thresholds factors rate)
+
+unfoldable pub settledAt : Terms → List ℤ → List ℤ → ℕ → Settlement
+settledAt terms thresholds factors rate =
+    let k = atRefusal terms thresholds factors rate in
+    kept k (settledOf terms thresholds factors (dollars (pos 0)) rate) (refusedHour k)
 
 -- the hour's rate: the smallest rolling rate of its scores, after the earlier ones
 abbrev pub rateOf : WholeHour → ℕ

@@ -1,7 +1,7 @@
 // The hour, dReg or E-dReg: its refusals in order, its scores, its rate and its fees.
 ghost use mathlib.Core.Path.{_≡_};
 ghost use mathlib.Core.Bool.{true, _&&_};
-ghost use lib.IntN.{pos, _+ℤ_};
+ghost use lib.IntN.{_+ℤ_};
 ghost use lib.ListN.{length, take, drop};
 ghost use mir.Syntax.{w64};
 ghost use mir.Val.{SFits};
@@ -12,7 +12,7 @@ ghost use Rattle.fees.specs.Fees.{feeAnswer, qualityAnswer, energyAnswer, mostE
 ghost use Rattle.bands.specs.Bands.{factorAnswer};
 ghost use Rattle.ramp.specs.Ramp.{planOf};
 ghost use Rattle.rate.specs.Rolling.{hourlyRate};
-ghost use Rattle.hour.specs.Hour.{termsRefusal, eDReg, dRegHour, eDRegHour, energyOf, energyPricesFit, targetsFit, lengthsFit, scoresLeft, grantedHour, refusedHour, settledOf, hourAnswer};
+ghost use Rattle.hour.specs.Hour.{termsRefusal, eDReg, dRegHour, eDRegHour, energyOf, energyPricesFit, targetsFit, lengthsFit, scoresLeft, grantedHour, refusedHour, settledOf, hourAnswer, atRefusal, settledAt};
 ghost use Rattle.hour.specs.Inner.{workedOf, workedLeft};
 use units::Dollars;
 use units::Kilowatts;
@@ -131,6 +131,28 @@ pub fn hour(
     )
 }
 
+// What an hour that shifts nothing comes to at a rate, for sReg's; or its refusal.
+pub fn settled_at(terms: Terms, thresholds: &[i64], factors: &[i64], rate: u8) -> Settlement
+    ensures { λ r. ⌜ r ≡ settledAt terms (now (thresholds .entry)) (now (factors .entry)) rate ⌝ }
+{
+    let k = at_refusal(terms, thresholds, factors, rate);
+    if k != 0 {
+        return refused_hour(k);
+    }
+    let no_energy = Dollars(0);
+    settled(terms, thresholds, factors, no_energy, rate)
+}
+
+// 2, 3, 5, 4.
+fn at_refusal(terms: Terms, thresholds: &[i64], factors: &[i64], rate: u8) -> u8
+    ensures { λ r. ⌜ r ≡ atRefusal terms (now (thresholds .entry)) (now (factors .entry)) rate ⌝ }
+{
+    let n = limits::SECONDS;
+    let k = terms_refusal(n, n, 0, n, terms, thresholds, factors, true, true);
+    let rated = whole::unless(rate <= limits::SCORE, refusals::BAD_READING, 0);
+    whole::or_else(k, rated)
+}
+
 // A refused hour, for the joint call too: its number, and zeros.
 pub fn refused_hour(number: u8) -> Settlement
     ensures { λ r. ⌜ r ≡ refusedHour number ⌝ }
@@ -220,36 +242,20 @@ fn worked(
     if number != 0 {
         return refused_hour(number);
     }
-    settled(terms, thresholds, factors, energy, earlier, scores)
+    settled(terms, thresholds, factors, energy, rate_of(earlier, scores))
 }
 
-// The settlement of an hour that is paid no energy, for sReg's, by its scores and the earlier ones.
-pub fn settled_by_scores(
-    terms: Terms,
-    thresholds: &[i64],
-    factors: &[i64],
-    earlier: &[u8],
-    scores: &[u8],
-) -> Settlement
-    ensures { λ r. ⌜ r ≡ settledOf terms (now (thresholds .entry)) (now (factors .entry)) (dollars (pos 0)) (hourlyRate (now (earlier .entry)) (now (scores .entry)) .rate) ⌝ }
-{
-    let no_energy = Dollars(0);
-    settled(terms, thresholds, factors, no_energy, earlier, scores)
-}
-
-// The rate, the factor and the fees of an hour by its scores.
+// The factor and the fees of an hour by its rate.
 fn settled(
     terms: Terms,
     thresholds: &[i64],
     factors: &[i64],
     energy: Dollars,
-    earlier: &[u8],
-    scores: &[u8],
+    rate: u8,
 ) -> Settlement
     requires { ⌜ Within mostEnergyFee (energy .0) ⌝ }
-    ensures { λ r. ⌜ r ≡ settledOf terms (now (thresholds .entry)) (now (factors .entry)) energy (hourlyRate (now (earlier .entry)) (now (scores .entry)) .rate) ⌝ }
+    ensures { λ r. ⌜ r ≡ settledOf terms (now (thresholds .entry)) (now (factors .entry)) energy rate ⌝ }
 {
-    let rate = rate_of(earlier, scores);
     let factor = factor_of(thresholds, factors, rate);
     let capacity = fee_of(terms.clearing, terms.capacity);
     let performance = fee_of(terms.performance, terms.capacity);

@@ -5,7 +5,7 @@ use mathlib.Core.Path.{_≡_, refl, sym, ap, _∙_}
 use mathlib.Core.Bool.{Bool, true, false, _&&_, and-false}
 use mathlib.Core.List.{List}
 use lib.Dec.{eqb, leb}
-use lib.IntN.{ℤ, pos}
+use lib.IntN.{ℤ}
 use lib.ListN.{length, getD}
 use borrow.Author.Tests.{leb-true, leb-false}
 use Rattle.whole.specs.Choice.{pick, kept}
@@ -40,7 +40,7 @@ use Rattle.words.specs.declared.Hour as words
 use Rattle.words.specs.declared.Hour.the-variants.{Dreg, Edreg, Sreg}
 use Rattle.words.specs.Inner.{boxed}
 use Rattle.hours.specs.Inner.{pairsIn, inTwelve}
-use Rattle.hours.specs.Hours.{HourNumbers, Basis, serviceOf, hourFrom, countsFit, hourBy, hourAsked, stated, endedBy, leftBy, scoresBy, ended, settlement, scoresIs, scoresAfter, stateFields, hourShown, hourReply}
+use Rattle.hours.specs.Hours.{HourNumbers, Basis, serviceOf, hourFrom, countsFit, hourBy, hourAsked, stateless, stated, endedBy, leftBy, scoresBy, settledBy, settlement, scoresAsked, scoresAfter, stateFields, hourShown, hourReply}
 
 -- ---- the three kinds, each by its own call
 
@@ -50,17 +50,14 @@ refusalBy Dreg state h places = hourRefusal h places
 refusalBy Edreg state h places = hourRefusal h places
 refusalBy Sreg state h places = sRegRefusal (stated state h) places
 
-abbrev bare : Settlement → Settled
-bare a = record { hour = a; state = Outside }
-
 number-by : (a : words.Hour) (s : EventState) (h : WholeHour) (n : ℕ) → endedBy a s h n .hour .refusal ≡ refusalBy a s h n
 number-by Dreg s h n = refusal-is h n
 number-by Edreg s h n = refusal-is h n
 number-by Sreg s h n = static.refusal-is (stated s h) n
 
 refused-by : (a : words.Hour) (s : EventState) (h : WholeHour) (n : ℕ) → (refusalBy a s h n ≡ 0 → ⊥) → endedBy a s h n ≡ refusedSReg (refusalBy a s h n)
-refused-by Dreg s h n f = ap bare (hour-refused h n f)
-refused-by Edreg s h n f = ap bare (hour-refused h n f)
+refused-by Dreg s h n f = ap stateless (hour-refused h n f)
+refused-by Edreg s h n f = ap stateless (hour-refused h n f)
 refused-by Sreg s h n f = static.refused-is (stated s h) n f
 
 left-by : (a : words.Hour) (s : EventState) (h : WholeHour) (run : List ℕ) → leftBy a s h run ≡ kept (refusalBy a s h (length run)) (scoresBy a s h) run
@@ -125,16 +122,16 @@ score-small Sreg s h i = scores-most s (h .terms .capacity .0) (h .powers) (h .f
 
 module _ (h : Basis) (c : h .fits ≡ true) where
   settlement-number : settlement h .refusal ≡ refusalBy (h .asked) (h .state) (h .hour) secondsOfHour
-  unfolding ended
+  unfolding settledBy
   settlement-number = rw c (number-by (h .asked) (h .state) (h .hour) secondsOfHour)
 
-  refused-fits : (settlement h .refusal ≡ 0 → ⊥) → ended h ≡ refusedSReg (settlement h .refusal)
-  unfolding ended
+  refused-fits : (settlement h .refusal ≡ 0 → ⊥) → settledBy h ≡ refusedSReg (settlement h .refusal)
+  unfolding settledBy
   refused-fits f = rw (settlement-number, c) (refused-by (h .asked) (h .state) (h .hour) secondsOfHour (λ z. f (settlement-number ∙ z)))
 
 -- a refused hour has zeros beside its number, and `Outside`
-pub refused-is : (h : Basis) → (settlement h .refusal ≡ 0 → ⊥) → ended h ≡ refusedSReg (settlement h .refusal)
-unfolding ended refusedHour
+pub refused-is : (h : Basis) → (settlement h .refusal ≡ 0 → ⊥) → settledBy h ≡ refusedSReg (settlement h .refusal)
+unfolding settledBy refusedHour
 refused-is h f = by-test (h .fits) (λ (t : h .fits ≡ true). refused-fits h t f) (λ (t : h .fits ≡ false). rw t)
 
 -- ---- more pairs than bands may be: the hour is refused with the same number, however many of them are read
@@ -216,8 +213,8 @@ module _ (a : words.Hour) (terms : Terms) (shift : Shift) (s : EventState) (band
   abbrev parts : List ℕ → WholeHour
   parts l = by a s powers frequencies terms shift bands l (pairsIn (length bands))
 
-  pub ended-is : endedBy a s (parts (taken before)) (length run) ≡ ended (hourBy a terms shift s bands true earlier readings)
-  unfolding hourBy ended
+  pub ended-is : endedBy a s (parts (taken before)) (length run) ≡ settledBy (hourBy a terms shift s bands true earlier readings)
+  unfolding hourBy settledBy
   ended-is =
       ap (λ (x : Earlier). endedBy a s (parts (taken x)) (length run)) e
       ∙ four-answer a s parts (λ l. refl) earlier (length run)
@@ -239,20 +236,20 @@ pub is-counted : (bands readings : ℕ) (counted : Bool) → countsFit bands cou
 is-counted bands readings counted e = and-both (eqb (bands % 2) 0) counted (and-both (eqb (bands % 2) 0 && counted) (eqb readings (2 * secondsOfHour)) e .0) .1
 
 module _ (a : words.Hour) (terms : Terms) (shift : Shift) (s : EventState) (bands : List ℤ) (counted : Bool) (earlier readings : List ℤ) (counts : countsFit (length bands) counted (length readings) ≡ false) where
-  pub ended-none : refusedSReg wrongLength ≡ ended (hourBy a terms shift s bands counted earlier readings)
-  unfolding hourBy ended
+  pub ended-none : refusedSReg wrongLength ≡ settledBy (hourBy a terms shift s bands counted earlier readings)
+  unfolding hourBy settledBy
   ended-none = rw counts
 
   pub left-none : (run : List ℕ) → run ≡ scoresAfter (hourBy a terms shift s bands counted earlier readings) run
-  unfolding hourBy ended scoresAfter refusedHour
+  unfolding hourBy settledBy scoresAfter refusedHour
   left-none run = rw counts
 
 not-none : (h : Basis) → h .fits ≡ false → settlement h .refusal ≡ 0 → ⊥
-unfolding ended refusedHour
+unfolding settledBy refusedHour
 not-none h t z = let e : wrongLength ≡ 0 = rw t at z in omega arith
 
 -- an hour that is not refused has a score for each second
-pub scores-all : (h : Basis) → settlement h .refusal ≡ 0 → length (scoresIs h) ≡ secondsOfHour
+pub scores-all : (h : Basis) → settlement h .refusal ≡ 0 → length (scoresAsked h) ≡ secondsOfHour
 scores-all h z =
     by-test (h .fits) (λ (t : h .fits ≡ true). long-by (h .asked) (h .state) (h .hour) secondsOfHour (sym (settlement-number h t) ∙ z)) (λ (t : h .fits ≡ false). absurd (not-none h t z))
 
@@ -274,27 +271,27 @@ few-by Sreg a = with-state (a .hour) (a .state)
 
 pub hour-few : (hour : words.Hour) (n : HourNumbers) → length (hourReply hour n .fields) ≤ 12
 unfolding hourReply
-hour-few hour n = few-by hour (ended (hourAsked hour n))
+hour-few hour n = few-by hour (settledBy (hourAsked hour n))
 
 -- ---- an answer's fields, as an array of twelve has them
 
 -- an hour that takes no state answers none
-abbrev pub Stateless : words.Hour → EventState → Type 0
-Stateless Dreg s = s ≡ Outside
-Stateless Edreg s = s ≡ Outside
-Stateless Sreg s = Unit {0}
+abbrev pub AnswersNone : words.Hour → EventState → Type 0
+AnswersNone Dreg s = s ≡ Outside
+AnswersNone Edreg s = s ≡ Outside
+AnswersNone Sreg s = Unit {0}
 
-no-state : (fits : Bool) (h : Settlement) (k : ℕ) → pick fits (bare h) (refusedSReg k) .state ≡ Outside
+no-state : (fits : Bool) (h : Settlement) (k : ℕ) → pick fits (stateless h) (refusedSReg k) .state ≡ Outside
 no-state true h k = refl
 no-state false h k = refl
 
-pub stateless : (hour : words.Hour) (n : HourNumbers) → Stateless hour (ended (hourAsked hour n) .state)
-unfolding hourBy ended
-stateless Dreg n = let h = hourAsked Dreg n in no-state (h .fits) (hourAnswer (h .hour) secondsOfHour) wrongLength
-stateless Edreg n = let h = hourAsked Edreg n in no-state (h .fits) (hourAnswer (h .hour) secondsOfHour) wrongLength
-stateless Sreg n = tt
+pub answers-none : (hour : words.Hour) (n : HourNumbers) → AnswersNone hour (settledBy (hourAsked hour n) .state)
+unfolding hourBy settledBy
+answers-none Dreg n = let h = hourAsked Dreg n in no-state (h .fits) (hourAnswer (h .hour) secondsOfHour) wrongLength
+answers-none Edreg n = let h = hourAsked Edreg n in no-state (h .fits) (hourAnswer (h .hour) secondsOfHour) wrongLength
+answers-none Sreg n = tt
 
-pub twelve-is : (hour : words.Hour) (a : Settled) → Stateless hour (a .state) → inTwelve hour (a .hour) (stateFields (a .state)) ≡ boxed (hourShown hour a)
+pub twelve-is : (hour : words.Hour) (a : Settled) → AnswersNone hour (a .state) → inTwelve hour (a .hour) (stateFields (a .state)) ≡ boxed (hourShown hour a)
 twelve-is Dreg a none = rw none
 twelve-is Edreg a none = rw none
 twelve-is Sreg a none = by-state (a .hour) (a .state)

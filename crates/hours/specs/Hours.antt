@@ -29,6 +29,7 @@ pub record HourNumbers : Type 0 where
   pub bands : List ℤ
   pub counted : Bool
   pub earlier : List ℤ
+  -- (before an sReg hour's, the three numbers of its state)
   pub readings : List ℤ
 
 abbrev pub hourNumbers : List ℤ → List ℤ → Bool → List ℤ → List ℤ → HourNumbers
@@ -43,7 +44,7 @@ stateNumbers Dreg = 0
 stateNumbers Edreg = 0
 stateNumbers Sreg = 3
 
--- "a POWER or COUNT that fits no state [is] 4": a count that no byte holds is taken as 255, which no state has
+-- a state that no hour ends in
 abbrev pub noState : EventState
 noState = Recovering 0
 
@@ -51,10 +52,10 @@ noState = Recovering 0
 abbrev pub equals : ℤ → ℤ → Bool
 equals z n = inRange n n z
 
--- "KIND 0 outside, 1 responding (POWER, COUNT scored), 2 holding (POWER), 3 recovering (COUNT left); another KIND, a number that a kind does not use and is not 0 .. are 4": these make a
--- state that no hour ends in
-unfoldable pub stateTold : ℤ → ℤ → ℤ → EventState
-stateTold kind power count =
+-- "KIND 0 outside, 1 responding (POWER, COUNT scored), 2 holding (POWER), 3 recovering (COUNT left); another KIND, a number that a kind does not use and is not 0, and
+-- a POWER or COUNT that fits no state are 4": a state that no hour ends in; a count that no byte holds is taken as 255, which no state has
+unfoldable pub stateAsked : ℤ → ℤ → ℤ → EventState
+stateAsked kind power count =
     pick (equals kind (pos 0) && equals power (pos 0) && equals count (pos 0)) Outside
     (pick (equals kind (pos 1)) (Responding (kilowatts power) (byteOf count))
     (pick (equals kind (pos 2) && equals count (pos 0)) (Holding (kilowatts power))
@@ -63,7 +64,7 @@ stateTold kind power count =
 abbrev pub stateHanded : words.Hour → List ℤ → EventState
 stateHanded Dreg readings = Outside
 stateHanded Edreg readings = Outside
-stateHanded Sreg readings = stateTold (number readings 0) (number readings 1) (number readings 2)
+stateHanded Sreg readings = stateAsked (number readings 0) (number readings 1) (number readings 2)
 
 -- and as it is printed
 abbrev pub stateFields : EventState → List ℤ
@@ -129,10 +130,14 @@ hourAsked hour n =
 abbrev pub stated : EventState → WholeHour → SRegHour
 stated state h = sRegHour (h .powers) (h .frequencies) (h .terms) (h .thresholds) (h .factors) (h .earlier) state
 
+-- a dReg or E-dReg hour ends in no state of its own
+abbrev pub stateless : Settlement → Settled
+stateless settled = record { hour = settled; state = Outside }
+
 -- the answer of the call that settles it, what that leaves in a run, and its scores
 abbrev pub endedBy : words.Hour → EventState → WholeHour → ℕ → Settled
-endedBy Dreg state h places = record { hour = hourAnswer h places; state = Outside }
-endedBy Edreg state h places = record { hour = hourAnswer h places; state = Outside }
+endedBy Dreg state h places = stateless (hourAnswer h places)
+endedBy Edreg state h places = stateless (hourAnswer h places)
 endedBy Sreg state h places = sRegAnswer (stated state h) places
 
 abbrev pub leftBy : words.Hour → EventState → WholeHour → List ℕ → List ℕ
@@ -145,23 +150,25 @@ scoresBy Dreg state h = scoresOf h
 scoresBy Edreg state h = scoresOf h
 scoresBy Sreg state h = sRegScores (stated state h)
 
--- 1 first; and what it leaves in a run of scores: its scores, or the run as it was
-unfoldable pub ended : Basis → Settled
-ended h = pick (h .fits) (endedBy (h .asked) (h .state) (h .hour) secondsOfHour) (refusedSReg wrongLength)
+-- what it comes to, 1 first
+unfoldable pub settledBy : Basis → Settled
+settledBy h = pick (h .fits) (endedBy (h .asked) (h .state) (h .hour) secondsOfHour) (refusedSReg wrongLength)
 
 abbrev pub settlement : Basis → Settlement
-settlement h = ended h .hour
+settlement h = settledBy h .hour
 
-abbrev pub scoresIs : Basis → List ℕ
-scoresIs h = scoresBy (h .asked) (h .state) (h .hour)
+abbrev pub scoresAsked : Basis → List ℕ
+scoresAsked h = scoresBy (h .asked) (h .state) (h .hour)
 
+-- and what it leaves in a run of scores: its scores, or the run as it was
 unfoldable pub scoresAfter : Basis → List ℕ → List ℕ
-scoresAfter h run = kept (settlement h .refusal) (scoresIs h) run
+scoresAfter h run = kept (settlement h .refusal) (scoresAsked h) run
 
--- rate, factor, capacity fee, performance fee, quality part, energy service fee, amount; and for sReg the state
+-- rate, factor, capacity fee, performance fee, quality part, energy service fee, amount
 abbrev pub fieldsOf : Settlement → List ℤ
 fieldsOf a = pos (a .rate) ∷ a .factor ∷ a .capacity .0 ∷ a .performance .0 ∷ a .quality .0 ∷ a .energy .0 ∷ a .amount .0 ∷ []
 
+-- and for sReg the state
 abbrev pub stateShown : words.Hour → EventState → List ℤ
 stateShown Dreg state = []
 stateShown Edreg state = []
@@ -171,11 +178,11 @@ abbrev pub hourShown : words.Hour → Settled → Reply
 hourShown hour a = reply (a .hour .refusal) (fieldsOf (a .hour) ++ stateShown hour (a .state))
 
 unfoldable pub hourReply : words.Hour → HourNumbers → Reply
-hourReply hour n = hourShown hour (ended (hourAsked hour n))
+hourReply hour n = hourShown hour (settledBy (hourAsked hour n))
 
 -- 0 and the 3,600 scores; or the refusal alone
 unfoldable pub scoresReply : words.Hour → HourNumbers → Reply
 scoresReply hour n =
     let h = hourAsked hour n in
     let k = settlement h .refusal in
-    reply k (kept k (map pos (scoresIs h)) [])
+    reply k (kept k (map pos (scoresAsked h)) [])

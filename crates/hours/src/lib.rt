@@ -7,7 +7,7 @@ ghost use lib.ListN.{length, drop};
 ghost use Rattle.numbers.specs.Numbers.{column};
 ghost use Rattle.numbers.specs.Inner.{taken};
 ghost use Rattle.words.specs.Inner.{boxed};
-ghost use Rattle.hours.specs.Hours.{hourNumbers, termsOf, shiftOf, serviceOf, hourFrom, countsFit, stateNumbers, equals, stateTold, stateHanded, stateFields, endedBy, leftBy, hourBy, hourAsked, ended, settlement, scoresAfter, hourReply};
+ghost use Rattle.hours.specs.Hours.{hourNumbers, termsOf, shiftOf, serviceOf, hourFrom, countsFit, stateNumbers, equals, stateAsked, stateHanded, stateFields, stateless, endedBy, leftBy, hourBy, hourAsked, settledBy, settlement, scoresAfter, hourReply};
 ghost use Rattle.hours.specs.Inner.{pairsIn, fieldsShown, inTwelve};
 use hour::Settlement;
 use hour::Shift;
@@ -97,12 +97,12 @@ fn settle_asked(
     readings: &[i64],
     scores: &mut [u8; limits::SECONDS],
 ) -> Settled
-    ensures answers { λ r. ⌜ r ≡ ended (hourAsked hour (hourNumbers terms (now (bands .entry)) counted (now (earlier .entry)) (now (readings .entry)))) ⌝ }
+    ensures answers { λ r. ⌜ r ≡ settledBy (hourAsked hour (hourNumbers terms (now (bands .entry)) counted (now (earlier .entry)) (now (readings .entry)))) ⌝ }
     ensures leaves { λ r. ⌜ now (scores .exit) ≡ scoresAfter (hourAsked hour (hourNumbers terms (now (bands .entry)) counted (now (earlier .entry)) (now (readings .entry)))) (now (scores .entry)) ⌝ }
 {
     let seconds = seconds_in(hour, readings);
     if !counts_fit(bands.len(), counted, seconds.len()) {
-        return sreg_hour::refused(refusals::WRONG_LENGTH);
+        return stateless(hour::refused_hour(refusals::WRONG_LENGTH));
     }
     settle_by(
         hour,
@@ -116,7 +116,7 @@ fn settle_asked(
     )
 }
 
-// How many of a question's last numbers are a state's.
+// How many numbers of a state stand before an hour's readings.
 fn state_numbers(hour: Hour) -> usize
     ensures is { λ r. ⌜ r ≡ stateNumbers hour ⌝ }
     ensures most { λ r. ⌜ r ≤ 3 ⌝ }
@@ -146,7 +146,7 @@ fn state_in(hour: Hour, readings: &[i64]) -> EventState
     match hour {
         Hour::Dreg => EventState::Outside,
         Hour::Edreg => EventState::Outside,
-        Hour::Sreg => state_told(
+        Hour::Sreg => state_asked(
             whole::at(readings, 0),
             whole::at(readings, 1),
             whole::at(readings, 2),
@@ -156,8 +156,8 @@ fn state_in(hour: Hour, readings: &[i64]) -> EventState
 
 // The state of a kind, with its power and its count. Another kind, and a number that the kind does not use and is not
 // 0, make one that no hour ends in.
-fn state_told(kind: i64, power: i64, count: i64) -> EventState
-    ensures { λ r. ⌜ r ≡ stateTold kind power count ⌝ }
+fn state_asked(kind: i64, power: i64, count: i64) -> EventState
+    ensures { λ r. ⌜ r ≡ stateAsked kind power count ⌝ }
 {
     let n = numbers::byte_of(count);
     if equals(kind, 0) & equals(power, 0) & equals(count, 0) {
@@ -180,6 +180,7 @@ fn state_told(kind: i64, power: i64, count: i64) -> EventState
     EventState::Recovering { left: 0 }
 }
 
+// A range of one number: of whole numbers of either sign it is the test that has its laws.
 fn equals(z: i64, n: i64) -> bool
     ensures { λ r. ⌜ r ≡ equals z n ⌝ }
 {
@@ -227,7 +228,7 @@ fn settle_by(
     scores: &mut [u8; limits::SECONDS],
 ) -> Settled
     requires { ⌜ countsFit (length (now bands)) true (length (now readings)) ≡ true ⌝ }
-    ensures answers { λ r. ⌜ r ≡ ended (hourBy hour terms shift state (now (bands .entry)) true (now (earlier .entry)) (now (readings .entry))) ⌝ }
+    ensures answers { λ r. ⌜ r ≡ settledBy (hourBy hour terms shift state (now (bands .entry)) true (now (earlier .entry)) (now (readings .entry))) ⌝ }
     ensures leaves { λ r. ⌜ now (scores .exit) ≡ scoresAfter (hourBy hour terms shift state (now (bands .entry)) true (now (earlier .entry)) (now (readings .entry))) (now (scores .entry)) ⌝ }
 {
     let mut powers = [0i64; limits::SECONDS];
@@ -311,31 +312,25 @@ fn settle_kind(
     ensures leaves { λ r. ⌜ now (scores .exit) ≡ leftBy hour state (hourFrom (now (powers .entry)) (now (frequencies .entry)) terms (serviceOf hour shift) (now (thresholds .entry)) (now (factors .entry)) (now (earlier .entry))) (now (scores .entry)) ⌝ }
 {
     match hour {
-        Hour::Dreg => Settled {
-            hour: hour::dreg_hour(
-                powers,
-                frequencies,
-                terms,
-                thresholds,
-                factors,
-                earlier,
-                scores,
-            ),
-            state: EventState::Outside,
-        },
-        Hour::Edreg => Settled {
-            hour: hour::hour(
-                powers,
-                frequencies,
-                terms,
-                shift,
-                thresholds,
-                factors,
-                earlier,
-                scores,
-            ),
-            state: EventState::Outside,
-        },
+        Hour::Dreg => stateless(hour::dreg_hour(
+            powers,
+            frequencies,
+            terms,
+            thresholds,
+            factors,
+            earlier,
+            scores,
+        )),
+        Hour::Edreg => stateless(hour::hour(
+            powers,
+            frequencies,
+            terms,
+            shift,
+            thresholds,
+            factors,
+            earlier,
+            scores,
+        )),
         Hour::Sreg => sreg_hour::sreg_hour(
             powers,
             frequencies,
@@ -346,6 +341,16 @@ fn settle_kind(
             state,
             scores,
         ),
+    }
+}
+
+// An hour that ends in no state of its own.
+fn stateless(settled: Settlement) -> Settled
+    ensures { λ r. ⌜ r ≡ stateless settled ⌝ }
+{
+    Settled {
+        hour: settled,
+        state: EventState::Outside,
     }
 }
 

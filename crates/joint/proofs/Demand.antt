@@ -1,6 +1,6 @@
 -- DEMAND 3 with the joint call: "any run of posts, by hand or by the joint call". A joint call whose hour is accepted with an amount in range is a post by hand of the amount that
 -- it worked out, and any other leaves the ledger as it was; so a run with joint calls is a run of the ledger's own calls with
--- the same history. Over any hours worked out; `joint-called` makes any answer that meets the joint call's contract such a call. Assumes nothing.
+-- the same history. Over any hours worked out; `joint-called`, and SReg `sreg-joint-called`, make any answer that meets a joint call's contract such a call. Assumes nothing.
 use Prim.Native.Nat.{ℕ}
 use mathlib.Core.Path.{_≡_, refl, sym, ap, _∙_, subst}
 use mathlib.Core.Bool.{Bool, true, false}
@@ -70,7 +70,7 @@ pub joint-called : (κs : Lfts 5) (b : Dens κs joint-kinds.ps) (j : Joined) (e 
 joint-called = joint-posts
 
 -- and there is one for anything that is handed in: the definitions' own answer
-abbrev lend : {X : Type 0} → X → RefT X
+abbrev pub lend : {X : Type 0} → X → RefT X
 lend x = record { ptr = (0, 0); name = 0; now = x }
 
 pub joint-made : (powers frequencies : List ℤ) (t : Terms) (shift : Shift) (thresholds factors : List ℤ) (earlier : List ℕ) (m : Month) (d x : ℕ) →

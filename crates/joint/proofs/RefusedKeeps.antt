@@ -1,10 +1,10 @@
--- A refused joint call is its number alone beside the ledger that was handed in: the answer goes by one number. Assumes nothing.
+-- A refused joint call is its number alone beside the ledger that was handed in, and of an sReg hour beside `Outside`: the answer goes by one number. Assumes nothing.
 use mathlib.Core.Path.{sym, ap, _∙_}
 use Rattle.whole.specs.Refused.{RefusedBare}
 use Rattle.sreg.specs.declared.EventState.the-variants.{Outside}
 use Rattle.joint.specs.Joint.{refusedBeside, workedBy}
 use Rattle.joint.specs.declared.Joined.{Joined}
-use Rattle.joint.specs.Calls.{jointHanded, monthGiven, sRegMonth}
+use Rattle.joint.specs.Calls.{jointHanded, monthGiven, sRegMonthGiven}
 use Rattle.joint.proofs.SameNumbers.{joint-posts, posted-bare}
 use Rattle.joint.proofs.SReg.{sreg-joint-refused}
 use Rattle.joint.proofs.joint.Reads as joint-reads
@@ -19,5 +19,5 @@ joint-refused-keeps κs b j e p f =
     posts ∙ posted-bare (workedBy (jointHanded b)) (monthGiven b) _ _ (λ z. f (told ∙ z)) ∙ ap (refusedBeside (monthGiven b)) (sym told)
 
 sreg-joint-refused-keeps :
-    RefusedBare 5 sreg-joint-kinds.ps sreg-joint-kinds.r (λ κs j. j .joined .hour .refusal) (λ κs b k. record { joined = refusedBeside (sRegMonth b) k; state = Outside }) sreg-joint-reads.Post
+    RefusedBare 5 sreg-joint-kinds.ps sreg-joint-kinds.r (λ κs j. j .joined .hour .refusal) (λ κs b k. record { joined = refusedBeside (sRegMonthGiven b) k; state = Outside }) sreg-joint-reads.Post
 sreg-joint-refused-keeps κs b j e p f = sreg-joint-refused κs b j e p f

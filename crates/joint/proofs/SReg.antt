@@ -2,15 +2,12 @@
 -- its end state, and what any answer of `sreg_hour` on the same hour is; a refusal, the ledger's included, is its number alone beside `Outside` and the ledger that was handed in. By the laws of
 -- a worked hour that is posted; over the contracts as the source states them. Assumes nothing.
 use Prim.Native.Nat.{ℕ}
-use mathlib.Core.Path.{_≡_, refl, sym, ap, ap₂, _∙_, subst}
+use mathlib.Core.Path.{_≡_, refl, sym, ap, _∙_, subst}
 use mathlib.Core.List.{List, []}
 use lib.IntN.{ℤ}
 use contract.Lifetimes.{Lfts}
 use denote.Triple.Clauses.{AtExit}
-use denote.Ref.{RefT}
 use borrow.Fn.Kinds.{Dens, endedOf}
-use borrow.Author.Tests.{eq-eqb}
-use Rattle.whole.specs.Refused.{RefusedBare}
 use Rattle.whole.proofs.Choice.{kept-new, kept-old}
 use Rattle.units.specs.Limits.{secondsOfHour}
 use Rattle.month.specs.declared.Month.{Month}
@@ -18,7 +15,7 @@ use Rattle.hour.specs.declared.Terms.{Terms}
 use Rattle.hour.specs.declared.Settlement.{Settlement}
 use Rattle.sreg.specs.declared.EventState.{EventState}
 use Rattle.sreg.specs.declared.EventState.the-variants.{Outside}
-use Rattle.sreg_hour.specs.Hour.{SRegHour, sRegHour, sRegRefusal, sRegScores, refusedSReg, sRegAnswer}
+use Rattle.sreg_hour.specs.Hour.{sRegHour, sRegRefusal, sRegScores, sRegAnswer}
 use Rattle.sreg_hour.specs.Accepted.{SRegAccepted}
 use Rattle.sreg_hour.specs.Calls.{sRegHanded, sRegRun}
 use Rattle.sreg_hour.specs.Hours.{HandedOn, OneRunOfEvents}
@@ -28,12 +25,13 @@ use Rattle.sreg_hour.proofs.Accepted.{granted-accepted}
 use Rattle.sreg_hour.proofs.Hours.{one-run-of-events}
 use Rattle.sreg_hour.proofs.sreg_hour.Reads as hour-reads
 use Rattle.sreg_hour.proofs.sreg_hour.Kinds as hour-kinds
-use Rattle.joint.specs.Joint.{refusedBeside, postedOf, besideState, sRegWorkedBy, sRegJointOf}
-use Rattle.joint.specs.SReg.{settledIn, SameSRegHour}
+use Rattle.joint.specs.Joint.{refusedBeside, besideState, sRegWorkedBy, sRegJointOf, SameHour}
+use Rattle.joint.specs.SReg.{settledIn}
 use Rattle.joint.specs.Runs.{JointCalled}
-use Rattle.joint.specs.Calls.{sRegGiven, sRegMonth, sRegDay, sRegAt}
+use Rattle.joint.specs.Calls.{sRegGiven, sRegMonthGiven, sRegDayGiven, sRegHourGiven}
 use Rattle.joint.specs.declared.Joined.{Joined}
 use Rattle.joint.specs.declared.StateJoined.{StateJoined}
+use Rattle.joint.proofs.Demand.{lend}
 use Rattle.joint.proofs.SameNumbers.{posted-granted, posted-bare, turned-is}
 use Rattle.joint.proofs.sreg_joint.Reads as sreg-joint-reads
 use Rattle.joint.proofs.sreg_joint.Kinds as sreg-joint-kinds
@@ -43,7 +41,7 @@ module _ (κs : Lfts 5) (b : Dens κs sreg-joint-kinds.ps) (j : StateJoined) (e 
   worked = sRegWorkedBy (sRegGiven b)
 
   -- "demand 3 runs through it": its ledger's part is a joint call, as the runs of Demand have it
-  pub sreg-joint-called : JointCalled (worked .hour) (sRegMonth b) (sRegDay b) (sRegAt b) (j .joined)
+  pub sreg-joint-called : JointCalled (worked .hour) (sRegMonthGiven b) (sRegDayGiven b) (sRegHourGiven b) (j .joined)
   unfolding sRegJointOf besideState
   sreg-joint-called = ap (λ (x : StateJoined). x .joined) met
 
@@ -60,7 +58,7 @@ module _ (κs : Lfts 5) (b : Dens κs sreg-joint-kinds.ps) (j : StateJoined) (e 
   pub sreg-joint-granted : j .joined .hour .refusal ≡ 0 → (worked .hour .refusal ≡ 0) × (settledIn j ≡ worked)
   sreg-joint-granted z =
       let posts = ap (λ (x : Joined). x .hour) sreg-joint-called in
-      let g = posted-granted (worked .hour) (sRegMonth b) _ _ (sym (ap (λ (x : Settlement). x .refusal) posts) ∙ z) in
+      let g = posted-granted (worked .hour) (sRegMonthGiven b) _ _ (sym (ap (λ (x : Settlement). x .refusal) posts) ∙ z) in
       (g .0, (λ i. record { hour = (posts ∙ g .1) i; state = granted-state z i }))
 
   pub sreg-joint-accepted : j .joined .hour .refusal ≡ 0 → SRegAccepted (sRegGiven b) (sRegScores (sRegGiven b)) (settledIn j)
@@ -71,10 +69,10 @@ module _ (κs : Lfts 5) (b : Dens κs sreg-joint-kinds.ps) (j : StateJoined) (e 
       subst (SRegAccepted h (sRegScores h)) (sym (g .1 ∙ granted h secondsOfHour none)) (granted-accepted h secondsOfHour (fit h secondsOfHour none))
 
   -- any refusal is its number alone, beside `Outside` and the ledger that was handed in
-  pub sreg-joint-refused : (j .joined .hour .refusal ≡ 0 → ⊥) → j ≡ record { joined = refusedBeside (sRegMonth b) (j .joined .hour .refusal); state = Outside }
+  pub sreg-joint-refused : (j .joined .hour .refusal ≡ 0 → ⊥) → j ≡ record { joined = refusedBeside (sRegMonthGiven b) (j .joined .hour .refusal); state = Outside }
   sreg-joint-refused f =
       let told = ap (λ (x : Joined). x .hour .refusal) sreg-joint-called in
-      let bare = sreg-joint-called ∙ posted-bare (worked .hour) (sRegMonth b) _ _ (λ z. f (told ∙ z)) ∙ ap (refusedBeside (sRegMonth b)) (sym told) in
+      let bare = sreg-joint-called ∙ posted-bare (worked .hour) (sRegMonthGiven b) _ _ (λ z. f (told ∙ z)) ∙ ap (refusedBeside (sRegMonthGiven b)) (sym told) in
       λ i. record { joined = bare i; state = refused-state f i }
 
 module _ (κs : Lfts 5) (b : Dens κs sreg-joint-kinds.ps) (j : StateJoined) (e : AtExit (endedOf 5 sreg-joint-kinds.ps sreg-joint-kinds.r) κs) (met : sreg-joint-reads.Post κs b j e)
@@ -88,22 +86,19 @@ module _ (κs : Lfts 5) (b : Dens κs sreg-joint-kinds.ps) (j : StateJoined) (e 
 
 module _ (κs : Lfts 6) (a : Dens κs hour-kinds.ps) (r : Settled) (s : AtExit (endedOf 6 hour-kinds.ps hour-kinds.r) κs) (p : hour-reads.Post κs a r s)
     (ηs : Lfts 5) (b : Dens ηs sreg-joint-kinds.ps) (j : StateJoined) (e : AtExit (endedOf 5 sreg-joint-kinds.ps sreg-joint-kinds.r) ηs) (q : sreg-joint-reads.Post ηs b j e)
-    (same : SameSRegHour (sRegHanded κs a) (sRegRun κs a) (sRegGiven b)) where
+    (same : SameHour (sRegHanded κs a) (sRegRun κs a) (sRegGiven b)) where
   worked-is : r ≡ sRegWorkedBy (sRegGiven b)
   worked-is = p .0 ∙ (λ i. sRegAnswer (same .hour i) (same .run i))
 
-  pub sreg-joint-same-numbers : (j .joined .hour .refusal ≡ 0 → settledIn j ≡ r) × ((r .hour .refusal ≡ 0 → ⊥) → j .joined ≡ refusedBeside (sRegMonth b) (r .hour .refusal))
+  pub sreg-joint-same-numbers : (j .joined .hour .refusal ≡ 0 → settledIn j ≡ r) × ((r .hour .refusal ≡ 0 → ⊥) → j .joined ≡ refusedBeside (sRegMonthGiven b) (r .hour .refusal))
   sreg-joint-same-numbers = (
     (λ z. sreg-joint-granted ηs b j e q z .1 ∙ sym worked-is),
     λ f.
         let number = ap (λ (x : Settled). x .hour .refusal) worked-is in
-        sreg-joint-called ηs b j e q ∙ turned-is (sRegWorkedBy (sRegGiven b) .hour) (sRegMonth b) _ _ (λ z. f (number ∙ z)) ∙ ap (refusedBeside (sRegMonth b)) (sym number),
+        sreg-joint-called ηs b j e q ∙ turned-is (sRegWorkedBy (sRegGiven b) .hour) (sRegMonthGiven b) _ _ (λ z. f (number ∙ z)) ∙ ap (refusedBeside (sRegMonthGiven b)) (sym number),
   )
 
 -- ---- there is such a call for anything that is handed in: the definitions' own answer
-
-abbrev lend : {X : Type 0} → X → RefT X
-lend x = record { ptr = (0, 0); name = 0; now = x }
 
 pub sreg-joint-made : (powers frequencies : List ℤ) (t : Terms) (thresholds factors : List ℤ) (earlier : List ℕ) (state : EventState) (m : Month) (d x : ℕ) →
     let h = sRegHour powers frequencies t thresholds factors earlier state in

@@ -34,11 +34,11 @@ SRegJointGiven = RefT (List ℤ) × (RefT (List ℤ) × (Terms × (RefT (List �
 abbrev pub sRegGiven : SRegJointGiven → SRegHour
 sRegGiven b = sRegHour (now (b .0)) (now (b .1 .0)) (b .1 .1 .0) (now (b .1 .1 .1 .0)) (now (b .1 .1 .1 .1 .0)) (now (b .1 .1 .1 .1 .1 .0)) (b .1 .1 .1 .1 .1 .1 .0)
 
-abbrev pub sRegMonth : SRegJointGiven → Month
-sRegMonth b = b .1 .1 .1 .1 .1 .1 .1 .0
+abbrev pub sRegMonthGiven : SRegJointGiven → Month
+sRegMonthGiven b = b .1 .1 .1 .1 .1 .1 .1 .0
 
-abbrev pub sRegDay : SRegJointGiven → ℕ
-sRegDay b = b .1 .1 .1 .1 .1 .1 .1 .1 .0
+abbrev pub sRegDayGiven : SRegJointGiven → ℕ
+sRegDayGiven b = b .1 .1 .1 .1 .1 .1 .1 .1 .0
 
-abbrev pub sRegAt : SRegJointGiven → ℕ
-sRegAt b = b .1 .1 .1 .1 .1 .1 .1 .1 .1 .0
+abbrev pub sRegHourGiven : SRegJointGiven → ℕ
+sRegHourGiven b = b .1 .1 .1 .1 .1 .1 .1 .1 .1 .0

@@ -59,7 +59,7 @@ sRegWorkedBy h = sRegAnswer h secondsOfHour
 unfoldable pub sRegJointOf : SRegHour → Month → ℕ → ℕ → StateJoined
 sRegJointOf h month day hour = let worked = sRegWorkedBy h in besideState (postedOf (worked .hour) month day hour) (worked .state)
 
--- a call of `hour` on h, with a lent run of 3,600 scores, and one of `joint` on the same hour
-pub record SameHour (h : WholeHour) (scores : List ℕ) (g : WholeHour) : Type 0 where
+-- a call of `hour`, or of `sreg_hour`, on h, with a lent run of 3,600 scores, and a joint call on the same hour
+pub record SameHour {H : Type 0} (h : H) (scores : List ℕ) (g : H) : Type 0 where
   pub hour : h ≡ g
   pub run : length scores ≡ secondsOfHour

@@ -20,7 +20,7 @@ use Rattle.numbers.specs.Numbers.{number}
 use Rattle.words.specs.declared.Hour.the-variants.{Dreg, Edreg, Sreg}
 use Rattle.words.specs.declared.Series.{Series}
 use Rattle.words.specs.declared.Series.the-variants.{Ramp, DregScores, EdregScores, SregScores}
-use Rattle.hours.specs.Hours.{HourNumbers, Basis, hourAsked, settlement, scoresIs, scoresReply}
+use Rattle.hours.specs.Hours.{HourNumbers, Basis, hourAsked, settlement, scoresAsked, scoresReply}
 use Rattle.hours.proofs.HourLaws.{scores-all, score-small}
 use Rattle.series.specs.Series.{rampReply, seriesReply}
 use Rattle.text.specs.Text.{signedText, put}
@@ -87,10 +87,10 @@ bytes-within (b ∷ bs) h =
     omega (arith, byte-short b (h 0), bytes-within bs (λ k. h (suc k)))
 
 -- the scores of an hour, or none beside a refusal
-hour-short : (h : Basis) → length (fieldsText (kept (settlement h .refusal) (map pos (scoresIs h)) [])) ≤ mostFields
+hour-short : (h : Basis) → length (fieldsText (kept (settlement h .refusal) (map pos (scoresAsked h)) [])) ≤ mostFields
 hour-short h =
-    let b = bytes-within (scoresIs h) (λ i. omega (arith, score-small (h .asked) (h .state) (h .hour) i)) in
-    kept-any (λ (l : List ℤ). length (fieldsText l) ≤ mostFields) (settlement h .refusal) (λ e. let m : length (scoresIs h) ≡ secondsOfHour = scores-all h e in omega arith) (omega arith)
+    let b = bytes-within (scoresAsked h) (λ i. omega (arith, score-small (h .asked) (h .state) (h .hour) i)) in
+    kept-any (λ (l : List ℤ). length (fieldsText l) ≤ mostFields) (settlement h .refusal) (λ e. let m : length (scoresAsked h) ≡ secondsOfHour = scores-all h e in omega arith) (omega arith)
 
 -- the fields of a run: at most 900, or short
 pub series-short : (asks : Series) (n : List ℤ) (given : HourNumbers) → Short (seriesReply asks n given .fields)

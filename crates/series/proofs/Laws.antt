@@ -18,7 +18,7 @@ use Rattle.numbers.specs.Numbers.{number}
 use Rattle.words.specs.Replies.{Reply, reply}
 use Rattle.ramp.specs.Ramp.{rampOf, rampRefusal, rampLeft}
 use Rattle.ramp.proofs.Accepted.{ramp-ramped}
-use Rattle.hours.specs.Hours.{Basis, settlement, scoresIs, scoresAfter}
+use Rattle.hours.specs.Hours.{Basis, settlement, scoresAsked, scoresAfter}
 use Rattle.hours.proofs.HourLaws.{scores-all}
 use Rattle.series.specs.Series.{rampReply}
 use Rattle.series.specs.Inner.{ranOf, ranLeft}
@@ -75,18 +75,18 @@ module _ (n run seconds : List ℤ) (k q : ℕ) (long : length (take q run) ≡ 
 
 module _ (h : Basis) (run : List ℤ) (k : ℕ) (e : k ≡ settlement h .refusal) where
   abbrev scored : Reply
-  scored = reply (settlement h .refusal) (kept (settlement h .refusal) (map pos (scoresIs h)) [])
+  scored = reply (settlement h .refusal) (kept (settlement h .refusal) (map pos (scoresAsked h)) [])
 
   pub scores-none : (k ≡ 0 → ⊥) → (record { refusal = k; count = 0 } ≡ ranOf scored) × (run ≡ ranLeft scored run)
-  scores-none f = none-ran k _ (map pos (scoresIs h)) e run f
+  scores-none f = none-ran k _ (map pos (scoresAsked h)) e run f
 
   pub scores-ran : (scores before : List ℕ) (left : List ℤ) (n : ℕ) → n ≡ secondsOfHour → length run ≡ n → scores ≡ scoresAfter h before → left ≡ map pos scores → k ≡ 0
       → (record { refusal = 0; count = n } ≡ ranOf scored) × (left ≡ ranLeft scored run)
   unfolding scoresAfter
   scores-ran scores before left n m long s w z =
-      let fields = map pos (scoresIs h) in
+      let fields = map pos (scoresAsked h) in
       let filled : left ≡ fields ++ drop n run = w ∙ ap (map pos) (s ∙ kept-new _ _ (sym e ∙ z)) ∙ sym (append-nil fields) ∙ ap (λ (r : List ℤ). fields ++ r) (sym (no-rest run n (omega (arith, long)))) in
-      all-ran k _ fields e run n left z (length-wide (scoresIs h) ∙ scores-all h (sym e ∙ z) ∙ sym m) filled
+      all-ran k _ fields e run n left z (length-wide (scoresAsked h) ∙ scores-all h (sym e ∙ z) ∙ sym m) filled
 
 -- ---- what is printed of the run
 

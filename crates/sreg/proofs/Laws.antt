@@ -11,11 +11,10 @@ use lib.IntN.{ℤ, pos}
 use lib.ListN.{length, getD}
 use lib.Seq.{ext-getD}
 use borrow.Author.Tests.{eqb-true, eq-eqb, ne-eqb}
-use Rattle.whole.specs.Choice.{unless, orElse, inOrder}
-use Rattle.whole.specs.Folds.{allTo}
+use Rattle.whole.specs.Choice.{unless}
 use Rattle.whole.specs.Runs.{listed}
 use Rattle.whole.specs.Whole.{allInRange}
-use Rattle.whole.proofs.Choice.{by-test, both, and-both, all-passed, passed-all, or-first, or-rest, kept-new, kept-old}
+use Rattle.whole.proofs.Choice.{by-test, and-both, all-passed, kept-new, kept-old}
 use Rattle.whole.proofs.Folds.{all-and}
 use Rattle.whole.proofs.Runs.{length-listed, getD-listed}
 use Rattle.units.specs.Limits.{isCapacity, isPower, isFrequency, arePowers, areFrequencies, secondsOfHour}
@@ -23,11 +22,9 @@ use Rattle.units.specs.Refusals.{wrongLength, badCapacity, badReading}
 use Rattle.units.specs.declared.Kilowatts.{Kilowatts}
 use Rattle.sreg.specs.Second.{isState}
 use Rattle.sreg.specs.Run.{scoresFrom, stateAfter, sRegScoresRefusal, sRegEnded, sRegScoresLeft}
-use Rattle.sreg.specs.Inner.{readAt, allRead, beforeReadings, judgedOf}
+use Rattle.sreg.specs.Inner.{allRead, beforeReadings, judgedOf}
 use Rattle.sreg.specs.declared.EventState.{EventState}
 use Rattle.sreg.specs.declared.EventState.the-variants.{Outside}
-use Rattle.sreg.specs.declared.Ended.{Ended}
-use Rattle.sreg.specs.declared.Judged.{Judged}
 
 -- a run is what its places hold
 pub listed-places : {A : Type 0} (xs : List A) (d : A) (n : ℕ) → n ≡ length xs → listed (λ (k : ℕ). getD xs k d) 0 n ≡ xs
@@ -80,23 +77,7 @@ module _ (powers frequencies : List ℤ) (capacity : Kilowatts) (state : EventSt
   abbrev before : ℕ
   before = beforeReadings (length powers) (length frequencies) places capacity state
 
-  -- every test, of a run that is not refused; and of one that is let through before its readings are looked at
-  pub scores-fit : refusal ≡ 0 → Before (length powers) (length frequencies) places capacity state × (arePowers powers ≡ true) × (areFrequencies frequencies ≡ true)
-  unfolding sRegScoresRefusal
-  scores-fit e =
-      let p = length powers in
-      let f = length frequencies in
-      let t = all-passed ((lengths p f places, wrongLength) ∷ (isCapacity (capacity .0), badCapacity) ∷ (isState state && (arePowers powers && areFrequencies frequencies), badReading) ∷ []) refl e in
-      let l = long p f places (t .0) in
-      let a = and-both (isState state) (arePowers powers && areFrequencies frequencies) (t .1 .1 .0) in
-      let r = and-both (arePowers powers) (areFrequencies frequencies) (a .1) in
-      (record { long-powers = l .0; long-frequencies = l .1; long-places = l .2; capacity-fits = t .1 .0; state-fits = a .0 }, r .0, r .1)
-
-  pub fit-scores : Before (length powers) (length frequencies) places capacity state → arePowers powers ≡ true → areFrequencies frequencies ≡ true → refusal ≡ 0
-  unfolding sRegScoresRefusal
-  fit-scores b p f =
-      rw (eq-eqb _ _ (b .long-powers), eq-eqb _ _ (b .long-frequencies), eq-eqb _ _ (b .long-places), b .capacity-fits, b .state-fits, p, f)
-
+  -- of a run that is let through before its readings are looked at, they decide
   pub readings-last : before ≡ 0 → refusal ≡ unless (allRead powers frequencies) badReading 0
   unfolding sRegScoresRefusal
   readings-last e =

@@ -1,5 +1,5 @@
 -- A state as three numbers, by the first of them. Assumes nothing.
-use mathlib.Core.Path.{_≡_, refl}
+use mathlib.Core.Path.{_≡_}
 use mathlib.Core.Bool.{true, false}
 use lib.Dec.{eqb}
 use lib.IntN.{ℤ}
@@ -7,7 +7,6 @@ use borrow.Author.Tests.{ne-eqb}
 use Rattle.whole.proofs.Choice.{by-test}
 use Rattle.sreg.specs.Second.{scoreIn}
 use Rattle.sreg.specs.Inner.{stateOf}
-use Rattle.sreg.specs.declared.EventState.{EventState}
 use Rattle.sreg.specs.declared.EventState.the-variants.{Outside, Responding, Holding, Recovering}
 use Rattle.sreg.specs.declared.Place.{Place}
 

@@ -1,6 +1,6 @@
 -- A refused run of seconds is its number alone beside `Outside`, and leaves the lent run as it was: answer and run go by one number. Assumes nothing.
 use Prim.Native.Nat.{ℕ}
-use mathlib.Core.Path.{_≡_, sym, ap, _∙_}
+use mathlib.Core.Path.{sym, ap, _∙_}
 use mathlib.Core.List.{List}
 use contract.Lifetimes.{Lfts}
 use denote.Ref.{now}

@@ -1,15 +1,14 @@
 -- A run of seconds: cut anywhere, it scores as its parts do, the second from the state that the first ends in; second by second; how large its scores are.
 -- By induction on the seconds. Assumes nothing.
-use Prim.Native.Nat.{ℕ, zero, suc, _+_, _<_, _≤_, min}
-use mathlib.Core.Path.{_≡_, refl, sym, ap, ap₂, _∙_}
-use mathlib.Core.Bool.{Bool, true, false}
+use Prim.Native.Nat.{ℕ, zero, suc, _+_, _<_, _≤_}
+use mathlib.Core.Path.{_≡_, refl, ap}
+use mathlib.Core.Bool.{true, false}
 use mathlib.Core.List.{List, [], _∷_, _++_}
 use native.Mathlib.Nat.{not-suc-le-zero, le-of-suc-le-suc}
 use native.Mathlib.Numerals.{add-one}
 use native.Mathlib.Omega.{arith}
 use lib.IntN.{ℤ, pos}
-use lib.ListN.{length, getD, take, drop}
-use Rattle.whole.specs.Choice.{pick}
+use lib.ListN.{length, getD, take}
 use Rattle.whole.proofs.Choice.{by-test}
 use Rattle.sreg.specs.Second.{nextState, percentOf, scoreIn, starts}
 use Rattle.sreg.specs.Run.{scoresFrom, stateAfter}
@@ -32,7 +31,7 @@ scores-cut state capacity [] [] ps' fs' e = refl
 scores-cut state capacity [] (f ∷ fs) ps' fs' e = absurd (omega arith)
 scores-cut state capacity (p ∷ ps) [] ps' fs' e = absurd (omega arith)
 scores-cut state capacity (p ∷ ps) (f ∷ fs) ps' fs' e =
-    ap (λ (l : List ℕ). scoreIn state p f capacity ∷ l) (scores-cut (nextState state p f) capacity ps fs ps' fs' (omega arith))
+    rw (scores-cut (nextState state p f) capacity ps fs ps' fs' (omega arith))
 
 -- ---- second by second
 

@@ -5,11 +5,11 @@ use mathlib.Core.Bool.{true, false, _&&_}
 use native.Mathlib.Omega.{arith}
 use lib.Dec.{eqb, leb}
 use lib.IntN.{ℤ}
-use borrow.Author.Tests.{leb-true, le-leb, eqb-true, eqb-false}
+use borrow.Author.Tests.{leb-true, le-leb, eqb-false}
 use Rattle.whole.proofs.Choice.{both, and-both, by-test}
 use Rattle.units.specs.declared.Kilowatts.{Kilowatts}
 use Rattle.units.specs.Limits.{isPower}
-use Rattle.sreg.specs.Second.{ends, isState, nextState, starts, unlessEnds, unlessStarts}
+use Rattle.sreg.specs.Second.{ends, isState, nextState, starts, unlessEnds, unlessStarts, oneScored}
 use Rattle.sreg.specs.declared.EventState.{EventState}
 use Rattle.sreg.specs.declared.EventState.the-variants.{Outside, Responding, Holding, Recovering}
 
@@ -35,33 +35,34 @@ pub recovering : {left : ℕ} → 1 ≤ left → left ≤ 10 → isState (Recove
 recovering {left} l m = both (le-leb 1 left l) (le-leb left 10 m)
 
 -- one second more
-module _ (power frequency : ℤ) where
-  starts-is : (state : EventState) → isPower power ≡ true → isState state ≡ true → isState (unlessStarts power frequency state) ≡ true
-  unfolding unlessStarts
-  starts-is state p e =
-      by-test (starts frequency)
-      (λ (t : starts frequency ≡ true). rw t (both p refl))
-      (λ (t : starts frequency ≡ false). rw t e)
+starts-is : (power frequency : ℤ) (state : EventState) → isPower power ≡ true → isState state ≡ true → isState (unlessStarts power frequency state) ≡ true
+unfolding unlessStarts
+starts-is power frequency state p e =
+    by-test (starts frequency)
+    (λ (t : starts frequency ≡ true). rw t (both p refl))
+    (λ (t : starts frequency ≡ false). rw t e)
 
-  ends-is : (state : EventState) → isState state ≡ true → isState (unlessEnds frequency state) ≡ true
-  unfolding unlessEnds
-  ends-is state e =
-      by-test (ends frequency)
-      (λ (t : ends frequency ≡ true). rw t)
-      (λ (t : ends frequency ≡ false). rw t e)
+ends-is : (frequency : ℤ) (state : EventState) → isState state ≡ true → isState (unlessEnds frequency state) ≡ true
+unfolding unlessEnds
+ends-is frequency state e =
+    by-test (ends frequency)
+    (λ (t : ends frequency ≡ true). rw t)
+    (λ (t : ends frequency ≡ false). rw t e)
 
-  pub next-is : (state : EventState) → isState state ≡ true → isPower power ≡ true → isState (nextState state power frequency) ≡ true
-  next-is Outside e p = starts-is Outside p refl
-  next-is (Responding start scored) e p =
-      let r = responds start scored e in
-      ends-is _
-      (by-test (eqb scored 9)
-      (λ (t : eqb scored 9 ≡ true). rw t (r .power))
-      (λ (t : eqb scored 9 ≡ false). rw t (responding {start = start} {scored = scored + 1} (record { power = r .power; least = omega arith; most = omega (arith, eqb-false scored 9 t) }))))
-  next-is (Holding start) e p = ends-is (Holding start) e
-  next-is (Recovering left) e p =
-      let r = recovers left e in
-      starts-is _ p
-      (by-test (eqb left 1)
-      (λ (t : eqb left 1 ≡ true). rw t)
-      (λ (t : eqb left 1 ≡ false). rw t (recovering {left = left - 1} (omega (arith, eqb-false left 1 t)) (omega arith))))
+scored-is : (start : Kilowatts) (scored : ℕ) → isPower (start .0) ≡ true → 1 ≤ scored → scored ≤ 9 → isState (oneScored start scored) ≡ true
+scored-is start scored p least most =
+    by-test (eqb scored 9)
+    (λ (t : eqb scored 9 ≡ true). rw t p)
+    (λ (t : eqb scored 9 ≡ false). rw t (responding {start = start} {scored = scored + 1} (record { power = p; least = omega arith; most = omega (arith, eqb-false scored 9 t) })))
+
+-- (a power that was tested is the second's or the start's)
+pub next-is : (power frequency : ℤ) (state : EventState) → isState state ≡ true → isPower power ≡ true → isState (nextState state power frequency) ≡ true
+next-is power frequency Outside e p = starts-is _ _ Outside p refl
+next-is power frequency (Responding start scored) e p = let r = responds start scored e in ends-is _ _ (scored-is _ scored (search (r .power, p)) (r .least) (r .most))
+next-is power frequency (Holding start) e p = ends-is _ (Holding start) e
+next-is power frequency (Recovering left) e p =
+    let r = recovers left e in
+    starts-is _ _ _ p
+    (by-test (eqb left 1)
+    (λ (t : eqb left 1 ≡ true). rw t)
+    (λ (t : eqb left 1 ≡ false). rw t (recovering {left = left - 1} (omega (arith, eqb-false left 1 t)) (omega arith))))

@@ -17,6 +17,8 @@ use units::refusals;
 
 const LEAST_POWER: i64 = -limits::POWER;
 
+const MOST_SCORE: i64 = limits::SCORE as i64;
+
 // The frequencies that start an event and end it, in mHz.
 const START: i64 = 59_880;
 
@@ -289,7 +291,7 @@ fn percent(power: i64, capacity: i64) -> u8
     if p < 0 {
         return 0;
     }
-    if 100 < p {
+    if MOST_SCORE < p {
         return limits::SCORE;
     }
     p as u8

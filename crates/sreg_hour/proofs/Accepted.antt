@@ -25,12 +25,12 @@ use Rattle.hour.proofs.Accepted.{factor-plain, fee-plain, quality-plain}
 use Rattle.sreg.specs.Second.{scoreIn, isState}
 use Rattle.sreg.specs.Run.{scoresFrom, stateAfter}
 use Rattle.sreg.specs.declared.EventState.{EventState}
-use Rattle.sreg.proofs.Seconds.{length-scores, score-at, scores-most}
+use Rattle.sreg.proofs.Seconds.{score-at, scores-most}
 use Rattle.sreg_hour.specs.Hour.{SRegHour, sRegRefusal, sRegScores, sRegState, sRegLeft, grantedSReg, sRegAnswer}
 use Rattle.sreg_hour.specs.Accepted.{SRegAccepted, SRegFits}
 use Rattle.sreg_hour.specs.Calls.{sRegHanded, sRegRun}
 use Rattle.sreg_hour.specs.declared.Settled.{Settled}
-use Rattle.sreg_hour.proofs.Laws.{unshifted, fit, fit-none, fits-unshifted, refusal-is, granted, scores-granted}
+use Rattle.sreg_hour.proofs.Laws.{unshifted, fit, fit-none, fits-unshifted, refusal-is, granted, scores-granted, scores-long as hour-long}
 use Rattle.sreg_hour.proofs.sreg_hour.Reads as sreg-hour-reads
 use Rattle.sreg_hour.proofs.sreg_hour.Kinds as sreg-hour-kinds
 
@@ -54,8 +54,7 @@ module _ (h : SRegHour) (places : ℕ) (f : SRegFits h places) where
   -- ---- the scores
 
   scores-long : length (sRegScores h) ≡ secondsOfHour
-  unfolding sRegScores
-  scores-long = length-scores (h .state) (h .terms .capacity .0) (h .powers) (h .frequencies) even ∙ lengths .of-powers
+  scores-long = hour-long h places (fit-none h places f)
 
   score-plain : (i : ℕ) → i < secondsOfHour →
       getD (sRegScores h) i 0 ≡ scoreIn (stateAfter (h .state) (take i (h .powers)) (take i (h .frequencies))) (getD (h .powers) i (pos 0)) (getD (h .frequencies) i (pos 0)) (h .terms .capacity .0)

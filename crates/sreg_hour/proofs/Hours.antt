@@ -1,12 +1,11 @@
 -- NOTHING DEPENDS ON WHERE THE HOUR IS CUT (document 02, #103): two accepted sReg hours, the second handed the state and the last three scores of the first, score, end and are rated as one run
 -- of 7,200 seconds. And each second of an hour is told by the request's sentences over the list of seconds, whatever state the hour is handed. By the laws of a cut; over the contract of
 -- `sreg_hour` as the source states it. Assumes nothing.
-use Prim.Native.Nat.{ℕ, _+_, _≤_, _<_}
+use Prim.Native.Nat.{ℕ, _+_, _≤_}
 use mathlib.Core.Path.{_≡_, refl, sym, ap, ap₂, _∙_, subst}
 use mathlib.Core.Bool.{true}
 use mathlib.Core.List.{List, _++_}
 use native.Mathlib.Omega.{arith}
-use lib.IntN.{ℤ, pos}
 use lib.ListN.{length, getD}
 use lib.Seq.{ext-getD}
 use contract.Lifetimes.{Lfts}
@@ -22,10 +21,11 @@ use Rattle.sreg.specs.Run.{scoresFrom, stateAfter}
 use Rattle.sreg.specs.declared.EventState.{EventState}
 use Rattle.sreg.proofs.Seconds.{state-cut, scores-cut, length-scores, score-at}
 use Rattle.events.specs.Events.{ScoreTold}
-use Rattle.events.proofs.Reach.{run-to, handed-told}
-use Rattle.sreg_hour.specs.Hour.{SRegHour, sRegScores}
-use Rattle.sreg_hour.specs.Accepted.{SRegAccepted, SRegFits}
-use Rattle.sreg_hour.specs.Hours.{HandedOn, OneRunOfEvents, HourTold}
+use Rattle.events.specs.States.{Stands}
+use Rattle.events.proofs.Reach.{run-to, handed-every, handed-only, handed-stands}
+use Rattle.sreg_hour.specs.Hour.{SRegHour}
+use Rattle.sreg_hour.specs.Accepted.{SRegAccepted}
+use Rattle.sreg_hour.specs.Hours.{HandedOn, OneRunOfEvents, SecondsTold}
 use Rattle.sreg_hour.specs.Calls.{sRegHanded, sRegRun}
 use Rattle.sreg_hour.specs.declared.Settled.{Settled}
 use Rattle.sreg_hour.proofs.Accepted.{small-scores, sreg-hour-accepted, sreg-hour-state}
@@ -63,21 +63,28 @@ one-run-of-events {g} {h} {first} {second} {x} {y} a b on =
     }
 
 -- each second, by the request's sentences
-pub hour-told : {h : SRegHour} {scores : List ℕ} {r : Settled} → SRegAccepted h scores r → isState (h .state) ≡ true → HourTold h scores
-hour-told {h} {scores} a passes =
+pub seconds-told : {h : SRegHour} {scores : List ℕ} {x : Settled} → SRegAccepted h scores x → isState (h .state) ≡ true → SecondsTold h scores x
+seconds-told {h} {scores} a passes =
     let c = h .terms .capacity .0 in
     record {
       before = run-to secondsOfHour (h .state) refl passes;
-      second = λ {n} r i l.
-          subst (ScoreTold (r .powers ++ h .powers) (r .frequencies ++ h .frequencies) c (n + i)) (sym (ap (λ (s : List ℕ). getD s i 0) (scores-are a)))
-          (handed-told (h .state) r c (h .powers) (h .frequencies) (even a) i (omega (arith, a .powers)));
+      every = λ {n} r i l.
+          subst (ScoreTold (r .powers ++ h .powers) (r .frequencies ++ h .frequencies) c (n + i)) (sym (score-is i))
+          (handed-every (h .state) r c (h .powers) (h .frequencies) (even a) i (omega (arith, a .powers)));
+      only = λ {n} r i score l t. score-is i ∙ handed-only (h .state) r c (h .powers) (h .frequencies) (even a) i score (omega (arith, a .powers)) t;
+      ends = λ {n} r.
+          subst (Stands (r .powers ++ h .powers) (r .frequencies ++ h .frequencies) (n + secondsOfHour)) (sym (a .state))
+          (handed-stands (h .state) r c (h .powers) (h .frequencies) (even a) secondsOfHour (a .powers));
     }
+  where
+    score-is : (i : ℕ) → getD scores i 0 ≡ getD (scoresFrom (h .state) (h .terms .capacity .0) (h .powers) (h .frequencies)) i 0
+    score-is i = ap (λ (s : List ℕ). getD s i 0) (scores-are a)
 
 -- ---- over the contract
 
 module _ (κs : Lfts 6) (a : Dens κs sreg-hour-kinds.ps) (r : Settled) (s : AtExit (endedOf 6 sreg-hour-kinds.ps sreg-hour-kinds.r) κs) (met : sreg-hour-reads.Post κs a r s) where
-  pub sreg-hour-told : r .hour .refusal ≡ 0 → HourTold (sRegHanded κs a) (sRegRun κs s)
-  sreg-hour-told none = hour-told (sreg-hour-accepted κs a r s met none) (sreg-hour-state κs a r s met none)
+  pub sreg-hour-told : r .hour .refusal ≡ 0 → SecondsTold (sRegHanded κs a) (sRegRun κs s) r
+  sreg-hour-told none = seconds-told (sreg-hour-accepted κs a r s met none) (sreg-hour-state κs a r s met none)
 
   -- and the hour after it
   module _ (ηs : Lfts 6) (b : Dens ηs sreg-hour-kinds.ps) (x : Settled) (t : AtExit (endedOf 6 sreg-hour-kinds.ps sreg-hour-kinds.r) ηs) (next : sreg-hour-reads.Post ηs b x t) where

@@ -1,6 +1,6 @@
 -- An sReg hour's inputs fit just where its refusal is 0; the core is the hour where the terms are let through; and what the refusal decides of the answer and of the lent run. By the lists of
 -- tests. Assumes nothing.
-use Prim.Native.Nat.{ℕ}
+use Prim.Native.Nat.{ℕ, _≤_}
 use mathlib.Core.Path.{_≡_, refl, sym, ap, _∙_}
 use mathlib.Core.Bool.{true, false, _&&_}
 use mathlib.Core.List.{List, _++_}
@@ -11,22 +11,22 @@ use lib.ListN.{length}
 use borrow.Author.Tests.{eq-eqb, eqb-true}
 use Rattle.whole.specs.Choice.{unless, orElse, inOrder, kept}
 use Rattle.whole.specs.Whole.{Within}
-use Rattle.whole.proofs.Choice.{both, and-both, by-test, all-passed, passed-all, in-order-then, or-first, or-rest, kept-new, kept-old, kept-any}
-use Rattle.units.specs.Limits.{isPrice, secondsOfHour}
+use Rattle.whole.proofs.Choice.{both, and-both, by-test, all-passed, passed-all, in-order-then, or-first, kept-new, kept-old, kept-any}
+use Rattle.units.specs.Limits.{isPrice, mostScore, secondsOfHour}
 use Rattle.units.specs.Refusals.{badReading}
 use Rattle.units.specs.Units.{dollars}
 use Rattle.rate.specs.Rolling.{areScores}
 use Rattle.fees.specs.Fees.{mostHourAmount}
 use Rattle.fees.proofs.Laws.{amount-within}
-use Rattle.hour.specs.Hour.{WholeHour, dRegHour, readingsFit, termsRefusal, grantedHour, settledOf, refusedHour}
+use Rattle.hour.specs.Hour.{WholeHour, dRegHour, readingsFit, termsRefusal, grantedHour, settledOf, refusedHour, settledAt}
 use Rattle.hour.specs.Accepted.{HourFits}
-use Rattle.hour.proofs.Laws.{ofTerms, terms-fit, long-of, Long, TermsFit}
+use Rattle.hour.proofs.Laws.{ofTerms, at-fits, terms-fit, long-of, TermsFit}
 use Rattle.sreg.specs.Second.{isState}
 use Rattle.sreg.specs.Run.{sRegScoresRefusal}
 use Rattle.sreg.proofs.Seconds.{length-scores}
 use Rattle.sreg_hour.specs.Hour.{SRegHour, sRegTermsTests, stateTests, sRegRefusal, sRegScores, sRegLeft, refusedSReg, grantedSReg, sRegAnswer}
 use Rattle.sreg_hour.specs.Accepted.{SRegFits}
-use Rattle.sreg_hour.specs.Inner.{workedNumber, sRegWorked, sRegWorkedLeft}
+use Rattle.sreg_hour.specs.Inner.{sRegWorkedRefusal, sRegWorked, sRegWorkedLeft}
 use Rattle.sreg_hour.specs.declared.Settled.{Settled}
 
 -- what a dReg hour would be handed
@@ -75,11 +75,17 @@ module _ (h : SRegHour) (places : ℕ) where
       let l = long-of (unshifted h) places (f .lengths) in
       rw (eq-eqb _ _ (l .of-powers), eq-eqb _ _ (l .of-frequencies), eq-eqb _ _ (l .of-places), f .capacity)
 
-  worked-number : terms ≡ 0 → workedNumber h places ≡ sRegRefusal h places
-  unfolding workedNumber
+  worked-number : terms ≡ 0 → sRegWorkedRefusal h places ≡ sRegRefusal h places
+  unfolding sRegWorkedRefusal
   worked-number none =
       rw (tests-last, none, scores-refusal (terms-fit (unshifted h) places none))
       (by-test (areScores (h .earlier)) (λ (t : areScores (h .earlier) ≡ true). rw t) (λ (t : areScores (h .earlier) ≡ false). rw t))
+
+  -- and settling by the rate refuses nothing
+  pub rate-settles : terms ≡ 0 → sRegWorkedRefusal h places ≡ 0 → (rate : ℕ) → rate ≤ mostScore
+      → settledAt (h .terms) (h .thresholds) (h .factors) rate ≡ settledOf (h .terms) (h .thresholds) (h .factors) (dollars (pos 0)) rate
+  unfolding settledAt
+  rate-settles none zero rate l = kept-new _ _ (at-fits (unshifted h) places rate (fits-unshifted (fit h places (sym (worked-number none) ∙ zero))) l)
 
   pub worked-is : terms ≡ 0 → sRegWorked h places ≡ sRegAnswer h places
   unfolding sRegWorked sRegAnswer
@@ -127,11 +133,11 @@ pub scores-long : (h : SRegHour) (places : ℕ) → sRegRefusal h places ≡ 0 �
 unfolding sRegScores
 scores-long h places e =
     let l = long-of (unshifted h) places (fit h places e .lengths) in
-    length-scores (h .state) (h .terms .capacity .0) (h .powers) (h .frequencies) (l .of-powers ∙ sym (l .of-frequencies)) ∙ l .of-powers
+    length-scores _ (h .terms .capacity .0) (h .powers) (h .frequencies) (l .of-powers ∙ sym (l .of-frequencies)) ∙ l .of-powers
 
 -- an hour's amount lies far inside 64 bits: the limits of its inputs see to it
 pub hour-within : (h : SRegHour) (places : ℕ) → Within mostHourAmount (sRegAnswer h places .hour .amount .0)
 unfolding sRegAnswer settledOf grantedHour refusedHour
 hour-within h places =
     kept-any (λ (r : Settled). Within mostHourAmount (r .hour .amount .0)) (sRegRefusal h places)
-    (λ e. amount-within _ _ _ (dollars (pos 0)) (omega arith)) (omega arith)
+    (λ e. amount-within _ _ _ _ (omega arith)) (omega arith)

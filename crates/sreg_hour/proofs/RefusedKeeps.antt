@@ -1,8 +1,8 @@
 -- A refused sReg hour is its number alone, beside `Outside`, and leaves the lent run as it was: answer and run go by one number. Assumes nothing.
-use mathlib.Core.Path.{_≡_, sym, ap, _∙_}
+use mathlib.Core.Path.{sym, ap, _∙_}
 use lib.ListN.{length}
 use Rattle.whole.specs.Refused.{RefusedKeeps}
-use Rattle.sreg_hour.specs.Hour.{SRegHour, refusedSReg}
+use Rattle.sreg_hour.specs.Hour.{refusedSReg}
 use Rattle.sreg_hour.specs.Calls.{sRegHanded, sRegRun}
 use Rattle.sreg_hour.specs.declared.Settled.{Settled}
 use Rattle.sreg_hour.proofs.Laws.{refusal-is, refused-is, scores-refused}

@@ -1,11 +1,10 @@
 -- THE STATES THAT AN HOUR CAN END IN (document 02, #103): the test of a state passes just where some accepted hour that begins outside ends in it; and every answer's state, a refusal's too, may be
 -- handed on. By the runs of seconds of crate events. Assumes nothing.
 use Prim.Native.Nat.{ℕ}
-use mathlib.Core.Path.{_≡_, refl, sym, ap, _∙_}
+use mathlib.Core.Path.{_≡_, refl, ap, _∙_}
 use mathlib.Core.Bool.{true}
-use mathlib.Core.List.{List, [], _∷_}
+use mathlib.Core.List.{[], _∷_}
 use lib.IntN.{pos}
-use lib.ListN.{length}
 use contract.Lifetimes.{Lfts}
 use borrow.Fn.Kinds.{Dens, endedOf}
 use denote.Triple.Clauses.{AtExit}
@@ -18,7 +17,6 @@ use Rattle.bands.specs.Bands.{bandsFit, fall}
 use Rattle.rate.specs.Rolling.{areScores}
 use Rattle.hour.specs.declared.Terms.{Terms}
 use Rattle.sreg.specs.Second.{isState}
-use Rattle.sreg.specs.Run.{stateAfter}
 use Rattle.sreg.specs.declared.EventState.{EventState}
 use Rattle.sreg.specs.declared.EventState.the-variants.{Outside}
 use Rattle.events.proofs.Reach.{run-to, after-passes}

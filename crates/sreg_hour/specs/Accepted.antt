@@ -4,7 +4,7 @@ use Prim.Native.Nat.{ℕ, _<_}
 use mathlib.Core.Path.{_≡_}
 use mathlib.Core.Bool.{true, _&&_}
 use mathlib.Core.List.{List}
-use lib.IntN.{ℤ, pos}
+use lib.IntN.{pos}
 use lib.ListN.{length, getD, take}
 use Rattle.units.specs.Limits.{isCapacity, isPrice, secondsOfHour}
 use Rattle.rate.specs.Rolling.{areScores, rolling, smallest}

@@ -10,7 +10,7 @@ use Rattle.sreg.specs.Run.{scoresFrom, stateAfter}
 use Rattle.sreg.specs.declared.EventState.{EventState}
 use Rattle.sreg.specs.declared.EventState.the-variants.{Outside}
 use Rattle.events.specs.Events.{ScoreTold}
-use Rattle.events.specs.States.{LeadsTo}
+use Rattle.events.specs.States.{Stands, LeadsTo}
 use Rattle.sreg_hour.specs.Hour.{SRegHour, sRegAnswer}
 use Rattle.sreg_hour.specs.declared.Settled.{Settled}
 
@@ -26,12 +26,15 @@ pub record OneRunOfEvents (g h : SRegHour) (first second : List ℕ) (x y : Sett
   pub state : y .state ≡ stateAfter (g .state) (g .powers ++ h .powers) (g .frequencies ++ h .frequencies)
   pub rates : OneRun (g .earlier) first second (x .hour) (y .hour)
 
--- each second of an hour, after any fit seconds that begin outside and end in the state that it is handed, is told by the request's sentences over the list of all these seconds, no state in
--- them; and there are such seconds
-pub record HourTold (h : SRegHour) (scores : List ℕ) : Type 0 where
+-- AN HOUR BY ITS SECONDS, no state in them: after any fit seconds that begin outside and end in the state that it is handed, and there are such, each of its seconds is told by one of the request's
+-- sentences over the list of all these seconds, whatever one of them tells of a second is its score, and the state that it ends in is told by them too
+pub record SecondsTold (h : SRegHour) (scores : List ℕ) (x : Settled) : Type 0 where
   pub before : LeadsTo secondsOfHour (h .state)
-  pub second : {n : ℕ} (r : LeadsTo n (h .state)) (i : ℕ) → i < secondsOfHour
+  pub every : {n : ℕ} (r : LeadsTo n (h .state)) (i : ℕ) → i < secondsOfHour
       → ScoreTold (r .powers ++ h .powers) (r .frequencies ++ h .frequencies) (h .terms .capacity .0) (n + i) (getD scores i 0)
+  pub only : {n : ℕ} (r : LeadsTo n (h .state)) (i score : ℕ) → i < secondsOfHour
+      → ScoreTold (r .powers ++ h .powers) (r .frequencies ++ h .frequencies) (h .terms .capacity .0) (n + i) score → getD scores i 0 ≡ score
+  pub ends : {n : ℕ} (r : LeadsTo n (h .state)) → Stands (r .powers ++ h .powers) (r .frequencies ++ h .frequencies) (n + secondsOfHour) (x .state)
 
 -- some hour that begins outside, and is accepted, ends in the state
 pub record HourEnds (state : EventState) : Type 0 where

@@ -10,12 +10,12 @@ use Rattle.sreg_hour.specs.Hour.{SRegHour, sRegScores, refusedSReg, gran
 use Rattle.sreg_hour.specs.declared.Settled.{Settled}
 
 -- 4 for an earlier score, then the scores' own number
-unfoldable pub workedNumber : SRegHour → ℕ → ℕ
-workedNumber h places =
+unfoldable pub sRegWorkedRefusal : SRegHour → ℕ → ℕ
+sRegWorkedRefusal h places =
     unless (areScores (h .earlier)) badReading (sRegScoresRefusal (h .powers) (h .frequencies) (h .terms .capacity) (h .state) places)
 
 unfoldable pub sRegWorked : SRegHour → ℕ → Settled
-sRegWorked h places = let k = workedNumber h places in kept k (grantedSReg h) (refusedSReg k)
+sRegWorked h places = let k = sRegWorkedRefusal h places in kept k (grantedSReg h) (refusedSReg k)
 
 unfoldable pub sRegWorkedLeft : SRegHour → List ℕ → List ℕ
-sRegWorkedLeft h run = kept (workedNumber h (length run)) (sRegScores h) run
+sRegWorkedLeft h run = kept (sRegWorkedRefusal h (length run)) (sRegScores h) run

@@ -1,6 +1,8 @@
 // The sReg hour: its refusals in order, its scores, its rate and its fees, and the state that it ends in.
 ghost use mathlib.Core.Path.{_≡_};
+ghost use mathlib.Core.Bool.{true};
 ghost use lib.ListN.{length};
+ghost use Rattle.hour.specs.Hour.{termsRefusal};
 ghost use Rattle.sreg_hour.specs.Hour.{sRegHour, refusedSReg, sRegAnswer, sRegLeft};
 ghost use Rattle.sreg_hour.specs.Inner.{sRegWorked, sRegWorkedLeft};
 use hour::Settlement;
@@ -56,8 +58,8 @@ pub fn sreg_hour(
     )
 }
 
-// A refused hour, for the desk too: its number, zeros, and `Outside`.
-pub fn refused(number: u8) -> Settled
+// A refused hour: its number, zeros, and `Outside`.
+fn refused(number: u8) -> Settled
     ensures { λ r. ⌜ r ≡ refusedSReg number ⌝ }
 {
     Settled {
@@ -66,8 +68,8 @@ pub fn refused(number: u8) -> Settled
     }
 }
 
-// The scores by the state, and the settlement by the scores; or the refusal of the earlier scores, the state and the
-// readings, and the run as it was.
+// The scores by the state, and the settlement by the scores, of terms that are let through; or the refusal of the
+// earlier scores, the state and the readings, and the run as it was.
 fn worked(
     powers: &[i64],
     frequencies: &[i64],
@@ -78,6 +80,7 @@ fn worked(
     state: EventState,
     scores: &mut [u8],
 ) -> Settled
+    requires { ⌜ termsRefusal (length (now powers)) (length (now frequencies)) (length (now earlier)) (length (now scores)) terms (now thresholds) (now factors) true true ≡ 0 ⌝ }
     ensures answers { λ r. ⌜ r ≡ sRegWorked (sRegHour (now (powers .entry)) (now (frequencies .entry)) terms (now (thresholds .entry)) (now (factors .entry)) (now (earlier .entry)) state) (length (now (scores .entry))) ⌝ }
     ensures leaves { λ r. ⌜ now (scores .exit) ≡ sRegWorkedLeft (sRegHour (now (powers .entry)) (now (frequencies .entry)) terms (now (thresholds .entry)) (now (factors .entry)) (now (earlier .entry)) state) (now (scores .entry)) ⌝ }
 {
@@ -89,8 +92,9 @@ fn worked(
         return refused(ended.refusal);
     }
     let after = ended.state;
+    let rated = rate::hourly_rate(earlier, scores);
     Settled {
-        hour: hour::settled_by_scores(terms, thresholds, factors, earlier, scores),
+        hour: hour::settled_at(terms, thresholds, factors, rated.rate),
         state: after,
     }
 }

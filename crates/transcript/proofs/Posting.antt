@@ -30,7 +30,7 @@ use Rattle.hour.specs.Hour.{refusedHour}
 use Rattle.numbers.specs.Numbers.{number, isByte, byteOf}
 use Rattle.words.specs.declared.Hour as words
 use Rattle.numbers.specs.declared.Places.{Places}
-use Rattle.hours.specs.Hours.{Basis, ended, settlement}
+use Rattle.hours.specs.Hours.{Basis, settledBy, settlement}
 use Rattle.hours.proofs.HourLaws.{amount-by}
 use Rattle.units.specs.declared.Dollars.{Dollars}
 use Rattle.loss.proofs.Laws.{loss-posts}
@@ -53,7 +53,7 @@ byte-below (negsuc n) =
     by-test (isByte (negsuc n)) (λ (t : isByte (negsuc n) ≡ true). rw t (omega arith)) (λ (t : isByte (negsuc n) ≡ false). rw t (omega arith))
 
 amount-fits : (h : Basis) → SFits w64 (settlement h .amount .0)
-unfolding ended refusedHour
+unfolding settledBy refusedHour
 amount-fits h =
     by-test (h .fits)
     (λ (t : h .fits ≡ true). rw t (within-fits w64 tt (amount-by (h .asked) (h .state) (h .hour) secondsOfHour)))

@@ -46,6 +46,9 @@ returns-2 c =
     let n = r .run-scores .ensures .0 in
     rw (through (r .before .before)) (c .refused-hour2 .ensures ∙ ap refusedHour n ∙ sym (kept-old _ _ (λ z. t .if2 .taken (n ∙ z))), r .run-scores .ensures .1)
 
+rate-of-requires : tie.Need-rate-of-requires
+rate-of-requires c κs = search needs
+
 settled-requires : tie.Need-settled-requires
 settled-requires c κs = search needs
 
@@ -55,13 +58,14 @@ same-length-2 c = search needs
 returns-3 : tie.Need-returns-3
 unfolding workedOf workedLeft workedRefusal runLeft
 returns-3 c =
-    let e = c .before .before in
+    let e = c .before .before .before in
     let r = e .before .before .before in
     let a = r .before .before .before .before .before .before .args in
     let none = sym (r .run-scores .ensures .0) ∙ e .if2 .left in
     let scores = r .run-scores .ensures .1 ∙ kept-new _ _ none in
+    let rate = ap (settledOf (a .terms) (a .thresholds .now) (a .factors .now) (a .energy)) (c .before .rate-of .ensures) in
     let settled = ap (λ (l : List ℕ). settledOf (a .terms) (a .thresholds .now) (a .factors .now) (a .energy) (hourlyRate (a .earlier .now) l .rate)) scores in
-    rw (through (r .before .before)) (c .settled .ensures ∙ settled ∙ sym (kept-new _ _ none), r .run-scores .ensures .1)
+    rw (through (r .before .before)) (c .settled .ensures ∙ rate ∙ settled ∙ sym (kept-new _ _ none), r .run-scores .ensures .1)
 
 pub worked-spec : {M : Type 1} → statement M
 worked-spec =
@@ -74,6 +78,7 @@ worked-spec =
     refused-hour-requires-2
     same-length
     returns-2
+    rate-of-requires
     settled-requires
     same-length-2
     returns-3)

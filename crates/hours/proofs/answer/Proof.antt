@@ -5,7 +5,7 @@ use Rattle.sreg_hour.specs.declared.Settled.{Settled}
 use Rattle.words.specs.Inner.{boxed}
 use Rattle.hours.specs.Hours.{hourNumbers, hourShown, hourReply}
 use Rattle.hours.specs.Inner.{inTwelve}
-use Rattle.hours.proofs.HourLaws.{Stateless, stateless, twelve-is}
+use Rattle.hours.proofs.HourLaws.{AnswersNone, answers-none, twelve-is}
 use Rattle.hours.proofs.answer.Statement.{statement}
 use Rattle.hours.proofs.answer.Tie as tie
 
@@ -26,7 +26,7 @@ returns c =
     let r = w .settle-asked in
     let a = w .before .before .args in
     let n = hourNumbers (a .terms) (a .bands .now) (a .counted) (a .earlier .now) (a .readings .now) in
-    let none = subst (λ (x : Settled). Stateless (a .hour) (x .state)) (sym (r .ensures .0)) (stateless (a .hour) n) in
+    let none = subst (λ (x : Settled). AnswersNone (a .hour) (x .state)) (sym (r .ensures .0)) (answers-none (a .hour) n) in
     c .shown .ensures ∙ ap (inTwelve (a .hour) (r .result .hour)) (f .state-fields .ensures) ∙ twelve-is (a .hour) (r .result) none ∙ ap (λ (x : Settled). boxed (hourShown (a .hour) x)) (r .ensures .0)
 
 pub answer-spec : {M : Type 1} → statement M

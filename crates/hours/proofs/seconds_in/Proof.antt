@@ -1,15 +1,13 @@
 -- `hours::seconds_in` meets its contract: past the end nothing is left. Assumes nothing.
 use Prim.Native.Nat.{_-_}
-use mathlib.Core.Path.{_≡_, sym, ap, _∙_}
+use mathlib.Core.Path.{sym, ap, _∙_}
 use native.Mathlib.Omega.{arith}
-use lib.IntN.{ℤ}
 use lib.ListN.{length, drop, length-drop}
 use lib.Seq.{take-all}
 use Rattle.whole.proofs.Runs.{no-rest}
 use borrow.Author.Needs.{needs}
 use Rattle.hours.proofs.seconds_in.Statement.{statement}
 use Rattle.hours.proofs.seconds_in.Tie as tie
-use Rattle.hours.proofs.state_numbers.Reads as state-numbers-reads
 
 state-numbers-requires : tie.Need-state-numbers-requires
 state-numbers-requires c κs = search needs

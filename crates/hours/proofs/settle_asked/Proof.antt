@@ -1,10 +1,10 @@
 -- `hours::settle_asked` meets its contract: the counts are tested, and the rest is settled by the terms and the state. Assumes nothing.
-use mathlib.Core.Path.{_≡_, sym, _∙_}
+use mathlib.Core.Path.{_≡_, sym, ap, _∙_}
 use mathlib.Core.Bool.{true, false}
 use lib.ListN.{length, drop}
 use borrow.Author.Tests.{not-true, not-false}
 use borrow.Author.Needs.{needs}
-use Rattle.hours.specs.Hours.{termsOf, shiftOf, countsFit, stateNumbers, stateHanded}
+use Rattle.hours.specs.Hours.{termsOf, shiftOf, countsFit, stateNumbers, stateHanded, stateless}
 use Rattle.hours.proofs.HourLaws.{is-counted, ended-none, left-none}
 use Rattle.hours.proofs.settle_asked.Statement.{statement}
 use Rattle.hours.proofs.settle_asked.Tie as tie
@@ -15,12 +15,15 @@ seconds-in-requires c κs = search needs
 counts-fit-requires : tie.Need-counts-fit-requires
 counts-fit-requires c κs = search needs
 
-refused-requires : tie.Need-refused-requires
-refused-requires c κs = search needs
+refused-hour-requires : tie.Need-refused-hour-requires
+refused-hour-requires c κs = search needs
+
+stateless-requires : tie.Need-stateless-requires
+stateless-requires c κs = search needs
 
 returns : tie.Need-returns
 returns c =
-    let t = c .before in
+    let t = c .before .before in
     let n = t .before in
     let a = n .before .before .args in
     let seconds = drop (stateNumbers (a .hour)) (a .readings .now) in
@@ -28,7 +31,7 @@ returns c =
     let terms = termsOf (a .terms) in
     let shift = shiftOf (a .terms) in
     let state = stateHanded (a .hour) (a .readings .now) in (
-      c .refused .ensures ∙ ended-none (a .hour) terms shift state (a .bands .now) (a .counted) (a .earlier .now) seconds e,
+      c .stateless .ensures ∙ ap stateless (c .before .refused-hour .ensures) ∙ ended-none (a .hour) terms shift state (a .bands .now) (a .counted) (a .earlier .now) seconds e,
       left-none (a .hour) terms shift state (a .bands .now) (a .counted) (a .earlier .now) seconds e (a .scores .now),
     )
 
@@ -64,7 +67,8 @@ settle-asked-spec =
     (tie.spec
     seconds-in-requires
     counts-fit-requires
-    refused-requires
+    refused-hour-requires
+    stateless-requires
     returns
     terms-of-requires
     shift-of-requires

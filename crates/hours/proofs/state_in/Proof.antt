@@ -3,7 +3,7 @@ use mathlib.Core.Path.{_∙_}
 use mir.Syntax.{w64}
 use borrow.Author.Needs.{needs}
 use Rattle.whole.proofs.Signed.{back}
-use Rattle.hours.specs.Hours.{stateTold}
+use Rattle.hours.specs.Hours.{stateAsked}
 use Rattle.hours.proofs.state_in.Statement.{statement}
 use Rattle.hours.proofs.state_in.Tie as tie
 
@@ -25,8 +25,8 @@ at-requires-2 c κs = search needs
 at-requires-3 : tie.Need-at-requires-3
 at-requires-3 c κs = search needs
 
-state-told-requires : tie.Need-state-told-requires
-state-told-requires c κs = search needs
+state-asked-requires : tie.Need-state-asked-requires
+state-asked-requires c κs = search needs
 
 returns : tie.Need-returns
 returns c = search needs
@@ -43,7 +43,7 @@ returns-3 c =
     let kind = back w64 (first .at .ok) (first .at .ensures) in
     let power = back w64 (second .at2 .ok) (second .at2 .ensures) in
     let count = back w64 (third .at3 .ok) (third .at3 .ensures) in
-    rw (e .enum-told3 .given .1) (c .state-told .ensures ∙ (λ i. stateTold (kind i) (power i) (count i)))
+    rw (e .enum-told3 .given .1) (c .state-asked .ensures ∙ (λ i. stateAsked (kind i) (power i) (count i)))
 
 pub state-in-spec : {M : Type 1} → statement M
 state-in-spec =
@@ -55,7 +55,7 @@ state-in-spec =
     at-requires
     at-requires-2
     at-requires-3
-    state-told-requires
+    state-asked-requires
     returns
     returns-2
     returns-3)

@@ -1,6 +1,6 @@
 -- `sreg::judge` meets its contract. The loop's invariant: the first i readings fit, the state is what they end in, and the first i places hold their scores. Assumes nothing.
-use Prim.Native.Nat.{ℕ, _≤_, _<_, _-_}
-use mathlib.Core.Path.{_≡_, refl, sym, ap, _∙_}
+use Prim.Native.Nat.{ℕ, _≤_, _-_}
+use mathlib.Core.Path.{_≡_, refl, sym, _∙_}
 use mathlib.Core.Bool.{true, false, _&&_}
 use mathlib.Core.List.{List}
 use native.Mathlib.Omega.{arith}
@@ -13,12 +13,10 @@ use mir.Facts.{toZ-ofZ}
 use borrow.Author.Tests.{not-true, not-false}
 use Rattle.whole.specs.Folds.{allTo}
 use Rattle.whole.specs.Runs.{filled}
-use Rattle.whole.specs.Whole.{inRange}
 use Rattle.whole.proofs.Choice.{both, and-both, clash}
 use Rattle.whole.proofs.Folds.{fold-none, fold-step, all-fails}
 use Rattle.whole.proofs.Runs.{filled-next, filled-all}
 use Rattle.units.specs.declared.Kilowatts.{Kilowatts}
-use Rattle.units.specs.Limits.{isFrequency, isPower}
 use Rattle.sreg.specs.Second.{isState}
 use Rattle.sreg.specs.Run.{scoresFrom, stateAfter}
 use Rattle.sreg.specs.Inner.{allRead, judgedOf, readAt, stateOf}

@@ -1,13 +1,13 @@
 -- `sreg::judged_hour` meets its contract, by those of `judge` and `copy`. Assumes nothing.
 use mathlib.Core.Path.{_≡_, refl, sym, ap, _∙_}
-use mathlib.Core.Bool.{true, false}
+use mathlib.Core.Bool.{true}
 use Prim.Native.Nat.{ℕ}
 use mathlib.Core.List.{List}
 use lib.ListN.{length}
-use Rattle.sreg.specs.Inner.{allRead, judgedOf}
+use Rattle.sreg.specs.Inner.{allRead}
 use Rattle.sreg.specs.declared.Judged.{Judged}
 use Rattle.sreg.proofs.Seconds.{length-scores}
-use Rattle.sreg.proofs.Laws.{Before, before-fit, fit-before, judged-fit, judged-state, hour-granted, reading-granted, reading-refused}
+use Rattle.sreg.proofs.Laws.{before-fit, fit-before, judged-fit, judged-state, hour-granted, reading-granted, reading-refused}
 use borrow.Author.Needs.{needs}
 use Rattle.sreg.proofs.judged_hour.Statement.{statement}
 use Rattle.sreg.proofs.judged_hour.Tie as tie

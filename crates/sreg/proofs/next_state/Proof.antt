@@ -1,8 +1,6 @@
 -- `sreg::next_state` meets its contract: by the state. Assumes nothing.
-use mathlib.Core.Path.{_≡_, sym, ap, _∙_}
 use mir.Facts.{toZ-ofZ}
-use Rattle.sreg.specs.Second.{unlessEnds, unlessStarts}
-use Rattle.sreg.proofs.States.{Responds, responds, recovers}
+use Rattle.sreg.proofs.States.{responds, recovers}
 use Rattle.sreg.proofs.Places.{place-0, place-1, place-2, place-3}
 use borrow.Author.Needs.{needs}
 use Rattle.sreg.proofs.next_state.Statement.{statement}

@@ -1,11 +1,11 @@
 -- `sreg::state_of` meets its contract: by its tests; the counts of a state that an hour can end in fit a byte. Assumes nothing.
-use mathlib.Core.Path.{_≡_, sym}
+use mathlib.Core.Path.{sym}
 use native.Mathlib.Omega.{arith}
 use mir.Syntax.{w64}
 use mir.Val.{SFits}
 use mir.Facts.{toZ-ofZ}
 use Rattle.units.specs.Units.{kilowatts}
-use Rattle.sreg.proofs.States.{Responds, responds, recovers}
+use Rattle.sreg.proofs.States.{responds, recovers}
 use Rattle.sreg.proofs.Places.{place-0, place-1, place-2, place-3}
 use borrow.Author.Needs.{needs}
 use Rattle.sreg.proofs.state_of.Statement.{statement}

@@ -3,7 +3,6 @@ use mathlib.Core.Path.{ap}
 use borrow.Author.Needs.{needs}
 use Rattle.sreg.specs.declared.EventState.the-variants.{Outside}
 use Rattle.hour.specs.declared.Settlement.{Settlement}
-use Rattle.sreg_hour.specs.declared.Settled.{Settled}
 use Rattle.sreg_hour.proofs.refused.Statement.{statement}
 use Rattle.sreg_hour.proofs.refused.Tie as tie
 

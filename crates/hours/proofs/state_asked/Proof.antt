@@ -1,13 +1,13 @@
--- `hours::state_told` meets its contract: by its tests, one after the other. Assumes nothing.
+-- `hours::state_asked` meets its contract: by its tests, one after the other. Assumes nothing.
 use mathlib.Core.Path.{_≡_, sym, _∙_}
 use mathlib.Core.Bool.{_&&_}
 use lib.IntN.{pos}
 use mir.Facts.{toZ-ofZ}
 use borrow.Author.Needs.{needs}
 use Rattle.numbers.specs.Numbers.{byteOf}
-use Rattle.hours.specs.Hours.{equals, stateTold}
-use Rattle.hours.proofs.state_told.Statement.{statement}
-use Rattle.hours.proofs.state_told.Tie as tie
+use Rattle.hours.specs.Hours.{equals, stateAsked}
+use Rattle.hours.proofs.state_asked.Statement.{statement}
+use Rattle.hours.proofs.state_asked.Tie as tie
 
 byte-of-requires : tie.Need-byte-of-requires
 byte-of-requires c κs = search needs
@@ -47,14 +47,14 @@ counted : (c : tie.After-byte-of) → c .byte-of .result ≡ byteOf (c .before .
 counted c = rw (toZ-ofZ (c .before .fits .count)) at (c .byte-of .ensures)
 
 returns : tie.Need-returns
-unfolding stateTold
+unfolding stateAsked
 returns c = rw (sym (is-outside (c .before)) ∙ c .if1 .taken)
 
 equals-requires-4 : tie.Need-equals-requires-4
 equals-requires-4 c κs = search needs
 
 returns-2 : tie.Need-returns-2
-unfolding stateTold
+unfolding stateAsked
 returns-2 c =
     let e = c .before .before in
     let o = e .before in
@@ -68,7 +68,7 @@ equals-requires-6 : tie.Need-equals-requires-6
 equals-requires-6 c κs = search needs
 
 returns-3 : tie.Need-returns-3
-unfolding stateTold
+unfolding stateAsked
 returns-3 c =
     let f = c .before .before .before in
     let e = f .before .before in
@@ -83,7 +83,7 @@ equals-requires-8 : tie.Need-equals-requires-8
 equals-requires-8 c κs = search needs
 
 returns-4 : tie.Need-returns-4
-unfolding stateTold
+unfolding stateAsked
 returns-4 c =
     let g = c .before .before .before in
     let f = g .before .before .before in
@@ -92,7 +92,7 @@ returns-4 c =
     rw (counted (o .before .before .before), sym (is-outside o) ∙ e .if1 .left, sym (is-responding (f .before)) ∙ f .if2 .left, sym (is-holding (g .before)) ∙ g .if3 .left, sym (is-recovering (c .before)) ∙ c .if4 .taken)
 
 returns-5 : tie.Need-returns-5
-unfolding stateTold
+unfolding stateAsked
 returns-5 c =
     let g = c .before .before .before in
     let f = g .before .before .before in
@@ -100,8 +100,8 @@ returns-5 c =
     let o = e .before in
     rw (sym (is-outside o) ∙ e .if1 .left, sym (is-responding (f .before)) ∙ f .if2 .left, sym (is-holding (g .before)) ∙ g .if3 .left, sym (is-recovering (c .before)) ∙ c .if4 .left)
 
-pub state-told-spec : {M : Type 1} → statement M
-state-told-spec =
+pub state-asked-spec : {M : Type 1} → statement M
+state-asked-spec =
     tie.close
     (tie.spec
     byte-of-requires
