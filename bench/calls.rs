@@ -1,5 +1,5 @@
 // The peer of crates/bench for ledger calls: the same calls on a month ledger in plain Rust, as one would write it without proofs.
-// Standard input is that of the Rattle program, ten numbers; of its lines this peer prints those of its own counts.
+// Standard input is that of the Rattle program, twelve numbers; of its lines this peer prints those of its own counts.
 use std::io::Read;
 
 const PLACES: usize = 744;

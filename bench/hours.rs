@@ -1,5 +1,5 @@
 // The peer of crates/bench for whole hours: the same hours in plain Rust, as one would write them without proofs, in one pass over the seconds.
-// Standard input is that of the Rattle program, ten numbers; of its lines this peer prints those of its own counts.
+// Standard input is that of the Rattle program, twelve numbers; of its lines this peer prints those of its own counts.
 use std::io::Read;
 
 const SECONDS: usize = 3600;
@@ -196,6 +196,88 @@ fn dreg_hour(
     Ok(settle(&terms, bands, rate, 0))
 }
 
+// Where an sReg hour ends: outside an event; in its first ten seconds, with the start power and how many are scored; in it from then on; in
+// the ten seconds after it, with how many are left.
+#[derive(Clone, Copy)]
+enum State {
+    Outside,
+    Responding { start: i64, scored: u64 },
+    Holding { start: i64 },
+    Recovering { left: u64 },
+}
+
+fn is_state(state: State) -> bool {
+    let is_power = |power| (-200_000..=200_000).contains(&power);
+    match state {
+        State::Outside => true,
+        State::Responding { start, scored } => is_power(start) && (1..=9).contains(&scored),
+        State::Holding { start } => is_power(start),
+        State::Recovering { left } => (1..=10).contains(&left),
+    }
+}
+
+fn percent(power: i64, capacity: i64) -> u8 {
+    if power <= 0 {
+        0
+    } else if power >= capacity {
+        100
+    } else {
+        nearest(power * 100, capacity) as u8
+    }
+}
+
+// A second's score, and the state after it.
+fn second(state: State, power: i64, frequency: i64, capacity: i64) -> (u8, State) {
+    let (falls, returns) = (frequency <= 59_880, frequency >= 59_980);
+    match state {
+        State::Outside | State::Recovering { .. } if falls => (100, State::Responding { start: power, scored: 1 }),
+        State::Outside => (percent(power, capacity), state),
+        State::Recovering { left: 1 } => (100, State::Outside),
+        State::Recovering { left } => (100, State::Recovering { left: left - 1 }),
+        State::Responding { .. } if returns => (100, State::Recovering { left: 10 }),
+        State::Responding { start, scored: 9 } => (100, State::Holding { start }),
+        State::Responding { start, scored } => (100, State::Responding { start, scored: scored + 1 }),
+        State::Holding { start } => (percent(start - power, capacity), if returns { State::Recovering { left: 10 } } else { state }),
+    }
+}
+
+fn sreg_hour(
+    powers: &[i64],
+    frequencies: &[i64],
+    capacity: i64,
+    clearing: i64,
+    performance: i64,
+    bands: &[Band],
+    earlier: &[u8],
+    state: State,
+    scores: &mut [u8],
+) -> Result<(Settlement, State), u8> {
+    let terms = Terms { capacity, clearing, performance, discharge: 0, charge: 0, targets: [0; 5] };
+    admit(powers, frequencies, &terms, bands, earlier, scores)?;
+    let (mut a, mut b, mut c) = match *earlier {
+        [] => (0, 0, 0),
+        [c, b, a] if a <= 100 && b <= 100 && c <= 100 => (a, b, c),
+        _ => return Err(BAD_READING),
+    };
+    if !is_state(state) {
+        return Err(BAD_READING);
+    }
+    let mut judged = [0; SECONDS];
+    let (mut rate, mut reached) = (100, state);
+    for ((&power, &frequency), judged) in powers.iter().zip(frequencies).zip(&mut judged) {
+        if !(-200_000..=200_000).contains(&power) || !(55_000..=65_000).contains(&frequency) {
+            return Err(BAD_READING);
+        }
+        let (s, after) = second(reached, power, frequency, capacity);
+        *judged = s;
+        reached = after;
+        rate = rate.min(s.max(a).max(b).max(c));
+        (a, b, c) = (s, a, b);
+    }
+    scores.copy_from_slice(&judged);
+    Ok((settle(&terms, bands, rate, 0), reached))
+}
+
 const MODULUS: u64 = 4_294_967_296;
 
 fn next(x: u64) -> u64 {
@@ -256,16 +338,67 @@ fn run(shifting: bool, capacity: u64, targets: [i64; 5], count: u64) -> u64 {
     scores.iter().fold(sum, |s, &x| mixed(s, x as u64))
 }
 
+fn with_state(sum: u64, state: State) -> u64 {
+    let (kind, power, count) = match state {
+        State::Outside => (0, 0, 0),
+        State::Responding { start, scored } => (1, start, scored),
+        State::Holding { start } => (2, start, 0),
+        State::Recovering { left } => (3, 0, left),
+    };
+    mixed(mixed(mixed(mixed(sum, kind), (power < 0) as u64), power.unsigned_abs()), count)
+}
+
+// A consumption of 0 to 1.3 times the capacity of 10 MW.
+fn consumed(x: u64) -> i64 {
+    (x / 65_536 % 13_000) as i64
+}
+
+fn run_sreg(by_chance: bool, capacity: u64, count: u64) -> u64 {
+    let bands = LIST_S.map(|(threshold, factor)| Band { threshold, factor });
+    let (mut powers, mut frequencies, mut scores) = ([0; SECONDS], [0; SECONDS], [0; SECONDS]);
+    let mut x = 1;
+    for i in 0..SECONDS {
+        x = next(x);
+        powers[i] = consumed(x);
+    }
+    let mut x = 7;
+    for i in 0..SECONDS {
+        x = next(x);
+        frequencies[i] = 59_700 + if by_chance { x / 65_536 % 601 } else { wave(i, x) } as i64;
+    }
+    let (mut x, mut sum, mut state) = (2, 0, State::Outside);
+    for n in 0..count {
+        x = next(x);
+        powers[n as usize % SECONDS] = consumed(x);
+        let earlier = [scores[SECONDS - 3], scores[SECONDS - 2], scores[SECONDS - 1]];
+        let answer = sreg_hour(&powers, &frequencies, capacity as i64, 44_000, 35_000, &bands, &earlier, state, &mut scores);
+        let (answer, after) = match answer {
+            Ok((settlement, after)) => (Ok(settlement), after),
+            Err(number) => (Err(number), State::Outside),
+        };
+        sum = with_settlement(sum, &answer);
+        state = after;
+        sum = with_state(sum, state);
+    }
+    scores.iter().fold(sum, |s, &x| mixed(s, x as u64))
+}
+
 fn main() {
     let mut input = String::new();
     std::io::stdin().read_to_string(&mut input).expect("standard input");
     let mut numbers = input.split_whitespace().skip(7).map(|n| n.parse::<u64>().expect("a number"));
     let mut number = || numbers.next().unwrap_or(0);
-    let (capacity, plain, shifting) = (number(), number(), number());
+    let (capacity, plain, shifting, wandering, by_chance) = (number(), number(), number(), number(), number());
     if plain != 0 {
         println!("dReg {plain} {}", run(false, capacity, [0; 5], plain));
     }
     if shifting != 0 {
         println!("E-dReg {shifting} {}", run(true, capacity, [2_000, -3_000, 5_000, -8_000, 4_000], shifting));
+    }
+    if wandering != 0 {
+        println!("sReg {wandering} {}", run_sreg(false, capacity, wandering));
+    }
+    if by_chance != 0 {
+        println!("sReg, by chance {by_chance} {}", run_sreg(true, capacity, by_chance));
     }
 }

@@ -557,85 +557,78 @@ def last_seconds(label, powers, *spans):
     return scores[3584:], ended
 
 
-powers = [10000] * 3581 + [0] * 10 + [4000] * 4 + [0] * 5
-assert last_seconds("an end second of 60", powers, (3580, 3594))[0][10] == 60
 six = [6000] * 3600
-for label, a, b, printed in [
-    ("59,980 in the second second", 3585, 3586, ([60] + [100] * 12 + [60] * 3, (0, 0, 0))),
-    ("in the tenth", 3585, 3594, ([60] + [100] * 15, (3, 0, 5))),
-    ("in the eleventh", 3585, 3595, ([60] + [100] * 10 + [0] + [100] * 4, (3, 0, 6))),
-    ("an event in the last second", 3599, 3600, ([60] * 15 + [100], (1, 6000, 1))),
+for a, b, printed in [
+    (3585, 3586, ([60] + [100] * 12 + [60] * 3, (0, 0, 0))),
+    (3585, 3594, ([60] + [100] * 15, (3, 0, 5))),
+    (3585, 3595, ([60] + [100] * 10 + [0] + [100] * 4, (3, 0, 6))),
+    (3599, 3600, ([60] * 15 + [100], (1, 6000, 1))),
 ]:
-    assert last_seconds(label, six, (a, b)) == printed
-again = but(6000, 3587, 3588, 13000)
-assert last_seconds("a fall in the tenth second after", again, (3575, 3577), (3587, 3600)) == ([100] * 13 + [70] * 3, (2, 13000, 0))
+    assert last_seconds("event %d %d" % (a, b), six, (a, b)) == printed
+powers = [10000] * 3581 + [0] * 10 + [4000] * 9
+assert last_seconds("an end second of 60", powers, (3580, 3594)) == ([100] * 7 + [60] * 4 + [100] * 5, (3, 0, 5))
+powers = but(6000, 3587, 3588, 13000)
+assert last_seconds("a fall in the tenth second after", powers, (3575, 3577), (3587, 3600)) == ([100] * 13 + [70] * 3, (2, 13000, 0))
 
 line("two sReg hours, one after the other")
 first = [20000] * 3590 + [10000] * 7 + [11000] + [20000] * 2
-second = [20000] + [10000] * 3 + [15000] + [0] * 10 + [10000] * 3585
-frequencies = [59979] * 4 + [59980] + [59881] * 3595
+second = [20000] + [10000] * 3 + [15000] * 11 + [10000] * 3585
+frequencies = [59979] * 4 + [59980] * 3596
 _, scores, ended = sreg("the first", first, at((3580, 3600)))
-assert ended == (2, 20000, 0)
-assert scores[3597:] == [90, 0, 0]
-both_hours = sreg_scores(first + second, at((3580, 3600)) + frequencies, 10000)
-for label, earlier, state, r in [
-    ("the second", scores[3597:], ended, 90),
-    ("the second, no earlier scores", [], ended, 0),
-    ("the second, from outside", scores[3597:], (0, 0, 0), 0),
-]:
+assert ended == (2, 20000, 0) and scores[3597:] == [90, 0, 0]
+for label, earlier, state in [("the second", scores[3597:], ended), ("the second, by itself", [], (0, 0, 0))]:
     s, got, _ = sreg(label, second, frequencies, earlier=earlier, state=state)
     line("scores", *got[:16])
-    assert s[1] == r and (got == both_hours[3600:]) == (state == ended)
-assert min(rolling(both_hours)[3600:]) == 90
+    # one run of 7,200 seconds
+    run = sreg_scores(first + second, at((3580, 3600)) + frequencies, 10000)
+    assert (got == run[3600:]) == (s[1] == min(rolling(run)[3600:])) == (state == ended)
 
 line("refused sReg hours: 1, 2, 3, 5, 4 in this order")
-run, short = [65001] * 3600, [0] * 3599
-for label, k, powers, frequencies, places in [
-    ("3,599 powers", 1, short, run, 3600),
-    ("3,599 frequencies", 1, run, short, 3600),
-    ("frequencies above", 4, run, run, 3600),
-    ("3,599 scores", 1, run, run, 3599),
+run, short = [60000] * 3600, [60000] * 3599
+for powers, frequencies, earlier, places in [(short, run, [], 3600), (run, short, [], 3600), (run, run, [100] * 2, 3600), (run, run, [], 3599)]:
+    lengths = len(powers), len(frequencies), len(earlier), places
+    assert sreg("lengths %d %d %d %d" % lengths, powers, frequencies, earlier=earlier, places=places)[0][0] == 1
+
+
+def tried(k, capacity, clearing, first, power, f, score, *state, label=None, earlier=None):
+    label = label or "hour " + " ".join(map(str, (capacity, clearing, first, power, f, score, *state)))
+    s, _, ended = sreg(label, [power] * 3600, [f] * 3600, (capacity, clearing, 35000), first, earlier or [score] * 3, state)
+    assert s[0] == k and ended == (0, 0, 0)
+
+
+tried(0, 10000, 43000, 10, 6000, 60000, 100, 0, 0, 0)
+tried(2, 0, 43000, 10, 6000, 60000, 100, 0, 0, 0)
+tried(3, 10000, -1, 10, 6000, 60000, 100, 0, 0, 0)
+tried(5, 10000, 43000, 11, 6000, 60000, 100, 0, 0, 0)
+tried(4, 10000, 43000, 10, 200001, 60000, 100, 0, 0, 0)
+tried(4, 10000, 43000, 10, 6000, 65001, 100, 0, 0, 0)
+tried(4, 10000, 43000, 10, 6000, 60000, 101, 0, 0, 0)
+tried(4, 10000, 43000, 10, 200001, 65001, 101, 3, 0, 11)
+tried(5, 10000, 43000, 11, 200001, 65001, 101, 3, 0, 11)
+tried(3, 10000, -1, 11, 200001, 65001, 101, 3, 0, 11)
+tried(2, 0, -1, 11, 200001, 65001, 101, 3, 0, 11)
+tried(1, 0, -1, 11, 200001, 65001, 101, 3, 0, 11, label="two earlier scores too", earlier=[101] * 2)
+line("states that an hour can end in, and others")
+for k, state in [
+    (4, (1, 10000, 0)),
+    (0, (1, 10000, 9)),
+    (4, (1, 10000, 10)),
+    (0, (1, 200000, 1)),
+    (4, (1, 200001, 1)),
+    (0, (2, -200000, 0)),
+    (4, (2, -200001, 0)),
+    (4, (3, 0, 0)),
+    (0, (3, 0, 10)),
+    (4, (3, 0, 11)),
 ]:
-    assert sreg(label, powers, frequencies, places=places)[0][0] == k
-for label, k, capacity, clearing, first, last, earlier, state in [
-    ("none", 0, 10000, 43000, 10, 0, [], (0, 0, 0)),
-    ("two earlier scores", 1, 10000, 43000, 10, 0, [100] * 2, (0, 0, 0)),
-    ("capacity 0", 2, 0, 43000, 10, 0, [], (0, 0, 0)),
-    ("price below", 3, 10000, -1, 10, 0, [], (0, 0, 0)),
-    ("factor 11", 5, 10000, 43000, 11, 0, [], (0, 0, 0)),
-    ("a power above", 4, 10000, 43000, 10, 200001, [], (0, 0, 0)),
-    ("an earlier score of 101", 4, 10000, 43000, 10, 0, [100, 101, 100], (0, 0, 0)),
-    ("11 left, a power above, earlier scores of 101", 4, 10000, 43000, 10, 200001, [101] * 3, (3, 0, 11)),
-    ("and a factor", 5, 10000, 43000, 11, 200001, [101] * 3, (3, 0, 11)),
-    ("and a price", 3, 10000, -1, 11, 200001, [101] * 3, (3, 0, 11)),
-    ("and the capacity", 2, 0, -1, 11, 200001, [101] * 3, (3, 0, 11)),
-    ("and two earlier scores", 1, 0, -1, 11, 200001, [101] * 2, (3, 0, 11)),
-    ("responding, 0 scored", 4, 10000, 43000, 10, 0, [], (1, 10000, 0)),
-    ("responding, 9 scored", 0, 10000, 43000, 10, 0, [], (1, 10000, 9)),
-    ("responding, 10 scored", 4, 10000, 43000, 10, 0, [], (1, 10000, 10)),
-    ("responding, 200,000", 0, 10000, 43000, 10, 0, [], (1, 200000, 1)),
-    ("responding, 200,001", 4, 10000, 43000, 10, 0, [], (1, 200001, 1)),
-    ("holding, -200,000", 0, 10000, 43000, 10, 0, [], (2, -200000, 0)),
-    ("holding, -200,001", 4, 10000, 43000, 10, 0, [], (2, -200001, 0)),
-    ("recovering, 0 left", 4, 10000, 43000, 10, 0, [], (3, 0, 0)),
-    ("recovering, 10 left", 0, 10000, 43000, 10, 0, [], (3, 0, 10)),
-    ("recovering, 11 left", 4, 10000, 43000, 10, 0, [], (3, 0, 11)),
-]:
-    s, _, ended = sreg(label, [10000] * 3599 + [last], still, (capacity, clearing, 35000), first, earlier, state)
-    assert s[0] == k and (k == 0 or ended == (0, 0, 0))
+    tried(k, 10000, 43000, 10, 6000, 60000, 100, *state)
 
 line("sReg joint calls")
 _, m = opened(30)
-for label, k, state, d, h in [
-    ("posted", 0, (0, 0, 0), 3, 10),
-    ("place filled", 7, (0, 0, 0), 3, 10),
-    ("day 0", 6, (0, 0, 0), 0, 10),
-    ("0 left, place filled", 4, (3, 0, 0), 3, 10),
-    ("another hour", 0, (3, 0, 1), 3, 11),
-]:
-    s, _, ended = sreg_hour([10000] * 3600, at((3599, 3600)), zeros, TERMS, FACTORS, [100] * 3, state)
+for k, left, d, h in [(0, 10, 3, 10), (7, 10, 3, 10), (6, 10, 0, 10), (4, 11, 3, 10), (0, 1, 3, 11)]:
+    s, _, ended = sreg_hour([10000] * 3600, at((3599, 3600)), zeros, TERMS, FACTORS, [], (3, 0, left))
     if s[0] == 0:
         s[0], m = m.post(d, h, s[7])
         s, ended = (s, ended) if s[0] == 0 else ([s[0]] + [0] * 7, (0, 0, 0))
-    assert s[0] == k
-    line(label, *s, *ended, *m.hour(d, h), *m.total(), *m.standing())
+    assert s[0] == k and ended == ((0, 0, 0) if k else (1, 10000, 1))
+    line("joint", left, d, h, *s, *ended, *m.hour(d, h), *m.total(), *m.standing())

@@ -2,6 +2,7 @@
 // windows look back into the last scores that the hour before left, and before the first hour into zeros.
 use crate::chance;
 use crate::readings;
+use crate::readings::Rule;
 use crate::sums;
 use hour::Settlement;
 use hour::Shift;
@@ -10,9 +11,9 @@ use units::Kilowatts;
 use units::limits;
 
 // Document 01's list S.
-const THRESHOLDS: [i64; 7] = [95, 94, 93, 92, 91, 70, 0];
+pub const THRESHOLDS: [i64; 7] = [95, 94, 93, 92, 91, 70, 0];
 
-const FACTORS: [i64; 7] = [10, 8, 6, 4, 2, 0, -10];
+pub const FACTORS: [i64; 7] = [10, 8, 6, 4, 2, 0, -10];
 
 // No transfer.
 pub(crate) fn dreg(capacity: u64, count: u64) -> u64 {
@@ -31,7 +32,7 @@ fn run(shifting: bool, capacity: u64, targets: [i64; 5], count: u64) -> u64 {
     let mut scores = [0u8; limits::SECONDS];
     ramp::plan(&targets, &mut transfers);
     readings::fill_powers(&mut powers, capacity, &transfers);
-    readings::fill_frequencies(&mut frequencies);
+    readings::fill(&mut frequencies, Rule::Wandering, 1);
     hours(
         shifting,
         &mut powers,
@@ -100,7 +101,7 @@ fn with_hour(
 }
 
 // The last three scores, and zeros where there are fewer.
-fn last_three(scores: &[u8]) -> [u8; 3] {
+pub(crate) fn last_three(scores: &[u8]) -> [u8; 3] {
     let n = scores.len();
     if n < 3 {
         return [0; 3];
@@ -144,7 +145,7 @@ fn settled(
 }
 
 // Prices are hundredths of a dollar.
-fn terms_of(capacity: u64) -> Terms {
+pub(crate) fn terms_of(capacity: u64) -> Terms {
     Terms {
         capacity: Kilowatts((capacity % 1_000_000) as i64),
         clearing: 44_000,

@@ -1,8 +1,8 @@
 // The benchmarks: ledger calls in place, in order and by chance, and by chance on a month by value; frames read from
-// lines in memory and frames written; whole hours, dReg and E-dReg. Standard input has ten numbers: the month's days,
-// 1 for a closed month and 0 for an open one, how many calls of each of the three ways, how many frames are read and
-// written, the capacity in kW, and how many hours of each kind. For each count that is not 0, the count and a check
-// sum are printed. The peers are in bench/.
+// lines in memory and frames written; whole hours, dReg, E-dReg, and sReg by a frequency that wanders and by one that
+// lies anywhere. Standard input has twelve numbers: the month's days, 1 for a closed month and 0 for an open one, how
+// many calls of each of the three ways, how many frames are read and written, the capacity in kW, and how many hours of
+// each of the four kinds. For each count that is not 0, the count and a check sum are printed. The peers are in bench/.
 mod calls;
 mod chance;
 mod draw;
@@ -11,7 +11,10 @@ mod hours;
 mod lines;
 mod readings;
 mod report;
+mod sreg_hours;
 mod sums;
+
+use crate::readings::Rule;
 
 fn main() {
     let mut buffer = [0u8; 128];
@@ -21,6 +24,7 @@ fn main() {
     ledger_calls(input);
     frames_both_ways(input);
     whole_hours(input);
+    whole_sreg_hours(input);
 }
 
 fn ledger_calls(input: &[u8]) {
@@ -72,5 +76,25 @@ fn whole_hours(input: &[u8]) {
     }
     if shifting != 0 {
         report::line(b"E-dReg", shifting, hours::edreg(capacity, shifting));
+    }
+}
+
+fn whole_sreg_hours(input: &[u8]) {
+    let capacity = report::count(input, 7);
+    let wandering = report::count(input, 10);
+    let by_chance = report::count(input, 11);
+    if wandering != 0 {
+        report::line(
+            b"sReg",
+            wandering,
+            sreg_hours::run(Rule::Wandering, capacity, wandering),
+        );
+    }
+    if by_chance != 0 {
+        report::line(
+            b"sReg, by chance",
+            by_chance,
+            sreg_hours::run(Rule::ByChance, capacity, by_chance),
+        );
     }
 }

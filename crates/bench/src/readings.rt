@@ -1,5 +1,5 @@
-// The readings of an hour: a frequency that wanders from 59,700 to 60,300 mHz and back every ten minutes, and a power
-// near the curve.
+// The readings of an hour: a frequency that wanders from 59,700 to 60,300 mHz and back every ten minutes, or lies there
+// by chance; and a power near the curve, or for sReg a consumption by chance.
 ghost use Rattle.whole.specs.Whole.{Within};
 ghost use Rattle.units.specs.Limits.{mostTransfer};
 use crate::chance;
@@ -11,6 +11,13 @@ const LEAST_TRANSFER: i64 = -limits::TRANSFER;
 const CAPACITIES: u64 = limits::CAPACITY as u64 + 1;
 
 const POWER: u64 = limits::POWER as u64;
+
+// What a run has: a frequency that wanders, one by chance, sReg's consumption.
+pub(crate) enum Rule {
+    Wandering,
+    ByChance,
+    Consumed,
+}
 
 // The power of a second, drawn by x.
 pub(crate) fn drawn(second: usize, x: u64, capacity: u64, transfers: &[i64]) -> i64 {
@@ -29,14 +36,28 @@ pub(crate) fn fill_powers(powers: &mut [i64], capacity: u64, transfers: &[i64]) 
     }
 }
 
-pub(crate) fn fill_frequencies(frequencies: &mut [i64]) {
-    let mut x = 1;
+// A run's values, drawn by the numbers after the first.
+pub(crate) fn fill(run: &mut [i64], rule: Rule, first: u64) {
+    let mut x = first;
     let mut i = 0;
-    while i < frequencies.len() {
+    while i < run.len() {
         x = chance::next(x);
-        let f = frequency(wave(i, x));
-        frequencies[i] = f;
+        let value = value_at(rule, i, x);
+        run[i] = value;
         i += 1;
+    }
+}
+
+// The consumption of a second, drawn by x: 0 to 1.3 times 10 MW.
+pub(crate) fn consumed(x: u64) -> i64 {
+    (x / 65_536 % 13_000) as i64
+}
+
+fn value_at(rule: Rule, second: usize, x: u64) -> i64 {
+    match rule {
+        Rule::Wandering => frequency(wave(second, x)),
+        Rule::ByChance => frequency(x / 65_536 % 601),
+        Rule::Consumed => consumed(x),
     }
 }
 
@@ -97,6 +118,6 @@ fn wave(second: usize, x: u64) -> u64 {
     1200 - turn
 }
 
-fn frequency(wave: u64) -> i64 {
-    (59_700 + wave % 601) as i64
+fn frequency(height: u64) -> i64 {
+    (59_700 + height % 601) as i64
 }

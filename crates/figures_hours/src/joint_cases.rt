@@ -87,7 +87,7 @@ pub(crate) fn join_after(
 }
 
 // The hour's place, the total and the standing hours.
-fn ledger(m: Month, day: u8, hour: u8) {
+pub(crate) fn ledger(m: Month, day: u8, hour: u8) {
     let h = m.hour(day, hour);
     let amount = h.amount;
     let t = m.total();

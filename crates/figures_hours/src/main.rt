@@ -1,4 +1,5 @@
-// Runs the papers' figures of whole hours: their fees, months of them, hours by their readings, joint calls.
+// Runs the papers' figures of whole hours: their fees, months of them, hours by their readings, joint calls; and those
+// of sReg hours, their events and the states that they are handed.
 // crates/figures_hours/stdout has what the papers print.
 mod earlier_cases;
 mod fees_cases;
@@ -7,6 +8,8 @@ mod joint_cases;
 mod month_cases;
 mod readings;
 mod refused_cases;
+mod sreg_cases;
+mod sreg_refused;
 mod text;
 
 fn main() {
@@ -26,4 +29,9 @@ fn main() {
     earlier_cases::refused();
     earlier_cases::in_a_row();
     earlier_cases::joint();
+    sreg_cases::table_2();
+    sreg_cases::ends();
+    sreg_cases::in_a_row();
+    sreg_refused::hours();
+    sreg_refused::joint();
 }

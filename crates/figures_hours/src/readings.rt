@@ -8,6 +8,8 @@ pub(crate) enum Rule {
     Turns(i64, i64),
     // frequencies over the whole curve, from 59,700 to 60,300
     Waver,
+    // consumption in document 001's table 2
+    Table2,
 }
 
 // The rule's values from a place on, up to another or the run's end.
@@ -24,6 +26,13 @@ pub(crate) fn fill(run: &mut [i64], from: usize, to: usize, rule: Rule) {
 // The same value from a place on, up to another or the run's end.
 pub(crate) fn stretch(run: &mut [i64], from: usize, to: usize, value: i64) {
     fill(run, from, to, Rule::Level(value));
+}
+
+// Another value at one place.
+pub(crate) fn put(run: &mut [i64], place: usize, value: i64) {
+    if place < run.len() {
+        run[place] = value;
+    }
 }
 
 // The planned transfer of each second of an hour.
@@ -51,6 +60,24 @@ fn value_at(rule: Rule, i: usize) -> i64 {
         Rule::Level(value) => value,
         Rule::Turns(even, odd) => if i % 2 == 0 { even } else { odd },
         Rule::Waver => (59_700 + i % 3_600 * 37 % 601) as i64,
+        Rule::Table2 => consumed(i),
+    }
+}
+
+// The event starts at 12 minutes 10 seconds, at 20 MW. The nine seconds after that one would score 0 if the event
+// judged them, and the ten after its last second if they were outside.
+fn consumed(second: usize) -> i64 {
+    match second {
+        731..=739 => 30_000,
+        740 | 747 | 750 => 10_000,
+        741 | 743 | 744 => 11_000,
+        742 => 15_000,
+        745 => 13_000,
+        746 => 10_500,
+        748 => 9_000,
+        749 => 14_000,
+        751..=760 => 0,
+        _ => 20_000,
     }
 }
 

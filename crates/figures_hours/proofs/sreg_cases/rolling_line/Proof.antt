@@ -1,0 +1,79 @@
+-- `rolling_line` is safe and ends: each turn passes a second. Assumes nothing.
+use Prim.Native.Nat.{_-_, _≤_}
+use lib.ListN.{length}
+use borrow.Author.Needs.{needs}
+use Rattle.figures_hours.proofs.sreg_cases.rolling_line.Statement.{statement}
+use Rattle.figures_hours.proofs.sreg_cases.rolling_line.Tie as tie
+
+abbrev Inv-loop : tie.InvT-loop
+Inv-loop scores i₀ i = 3 ≤ i
+
+abbrev μ-loop : tie.MeasureT-loop
+μ-loop scores i₀ i = length scores - i
+
+slice-aggregate-write-all : tie.Need-slice-aggregate-write-all Inv-loop μ-loop
+slice-aggregate-write-all c = search needs
+
+write-all-requires : tie.Need-write-all-requires Inv-loop μ-loop
+write-all-requires c κs = search needs
+
+loop-holds : tie.Need-loop-holds Inv-loop μ-loop
+loop-holds c = search needs
+
+sub-oldest : tie.Need-sub-oldest Inv-loop μ-loop
+sub-oldest c = search needs
+
+sub-rolling-rate : tie.Need-sub-rolling-rate Inv-loop μ-loop
+sub-rolling-rate c = search needs
+
+part-rolling-rate-start : tie.Need-part-rolling-rate-start Inv-loop μ-loop
+part-rolling-rate-start c = search needs
+
+part-rolling-rate-end : tie.Need-part-rolling-rate-end Inv-loop μ-loop
+part-rolling-rate-end c = search needs
+
+shared-slice-read-rolling-rate : tie.Need-shared-slice-read-rolling-rate Inv-loop μ-loop
+shared-slice-read-rolling-rate c = search needs
+
+rolling-rate-requires : tie.Need-rolling-rate-requires Inv-loop μ-loop
+rolling-rate-requires c κs = search needs
+
+byte-requires : tie.Need-byte-requires Inv-loop μ-loop
+byte-requires c κs = search needs
+
+add-i : tie.Need-add-i Inv-loop μ-loop
+add-i c = search needs
+
+loop-less : tie.Need-loop-less Inv-loop μ-loop
+loop-less c = search needs
+
+loop-again : tie.Need-loop-again Inv-loop μ-loop
+loop-again c = search needs
+
+end-requires : tie.Need-end-requires Inv-loop μ-loop
+end-requires c κs = search needs
+
+returns : tie.Need-returns Inv-loop μ-loop
+returns c = search needs
+
+pub rolling-line-spec : {M : Type 1} → statement M
+rolling-line-spec =
+    tie.close
+    (tie.spec
+    Inv-loop
+    μ-loop
+    slice-aggregate-write-all
+    write-all-requires
+    loop-holds
+    sub-oldest
+    sub-rolling-rate
+    part-rolling-rate-start
+    part-rolling-rate-end
+    shared-slice-read-rolling-rate
+    rolling-rate-requires
+    byte-requires
+    add-i
+    loop-less
+    loop-again
+    end-requires
+    returns)
