@@ -45,10 +45,13 @@ pub enum Fault {
     TenScoredTaken,
     UnusedTaken,
     StateBeforeCapacity,
+    LowerCaseWritten,
+    TenAfterNine,
+    LowerCaseRead,
 }
 
 /// The name on the command line, the fault, and what it does.
-pub const FAULTS: [(&str, Fault, &str); 40] = [
+pub const FAULTS: [(&str, Fault, &str); 43] = [
     ("half-toward-zero", Fault::HalfTowardZero, "a half is rounded toward zero"),
     ("window-of-three", Fault::WindowOfThree, "a rolling rate looks at three seconds"),
     ("own-second", Fault::OwnSecond, "a power is judged by its own second's frequency"),
@@ -89,6 +92,9 @@ pub const FAULTS: [(&str, Fault, &str); 40] = [
     ("ten-scored-taken", Fault::TenScoredTaken, "a responding state with all ten seconds scored is taken"),
     ("unused-taken", Fault::UnusedTaken, "a number that a state's kind does not use may be other than 0"),
     ("state-before-capacity", Fault::StateBeforeCapacity, "the 4 of a handed-in state comes before 2"),
+    ("lower-case-written", Fault::LowerCaseWritten, "a frame is written with lower-case letters"),
+    ("ten-after-nine", Fault::TenAfterNine, "the digit of ten is written as the byte after `9`"),
+    ("lower-case-read", Fault::LowerCaseRead, "a frame with lower-case letters is read"),
 ];
 
 static CHOSEN: OnceLock<Fault> = OnceLock::new();

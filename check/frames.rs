@@ -78,7 +78,7 @@ fn damage(draw: &mut Draw, line: &mut Text) {
         2 => line.truncate(at),
         3 => line.make_ascii_lowercase(),
         4 if !line.is_empty() => line[at] = some_byte(draw),
-        5 if !line.is_empty() => line[at] = draw.of(b"0123456789ABCDEF"),
+        5 if !line.is_empty() => line[at] = format!("{:X}", draw.below(16)).as_bytes()[0],
         _ => line.push(b'\r'),
     }
 }

@@ -49,11 +49,18 @@ pub fn digits(frame: &Frame) -> String {
 /// The writer: 1 is for its lent run, which desk always lends in its length.
 pub fn write(frame: &Frame) -> Answer<String> {
     first_refused(&[13], &[(13, !kind_fits(frame))])?;
+    if wrong(Fault::LowerCaseWritten) {
+        return Ok(digits(frame).to_ascii_lowercase());
+    }
+    if wrong(Fault::TenAfterNine) {
+        return Ok(digits(frame).replace('A', ":"));
+    }
     Ok(digits(frame))
 }
 
 fn digit(byte: u8) -> Option<u128> {
-    "0123456789ABCDEF".bytes().position(|known| known == byte).map(|value| value as u128)
+    let value = char::from(byte).to_digit(16)?;
+    (!byte.is_ascii_lowercase() || wrong(Fault::LowerCaseRead)).then_some(value.into())
 }
 
 /// The reader: "1, 11, 12, 13".

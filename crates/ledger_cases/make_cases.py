@@ -9,7 +9,6 @@ import random
 
 HERE = os.path.dirname(os.path.abspath(__file__))
 OPEN, POST, REPLACE, WITHDRAW, BASIC, CLOSE, EXCESS = range(7)
-DIGITS = b"0123456789ABCDEF"
 
 
 def frame(kind, day=0, hour=0, amount=0):
@@ -17,11 +16,15 @@ def frame(kind, day=0, hour=0, amount=0):
     return (body + bytes([sum(body) % 256])).hex().upper().encode()
 
 
+def is_digit(byte):
+    return ord("0") <= byte <= ord("9") or ord("A") <= byte <= ord("F")
+
+
 def read(line):
     """The refusal, or the entry."""
     if len(line) != 24:
         return 1
-    if any(b not in DIGITS for b in line):
+    if not all(is_digit(b) for b in line):
         return 11
     body = bytes.fromhex(line.decode())
     if sum(body[:11]) % 256 != body[11]:
@@ -216,6 +219,10 @@ CASES = [
         ),
     ),
     ("lower-case digits", lines(OPENED, frame(POST, 3, 10, 6280).lower(), frame(POST, 3, 10, 6280))),
+    (
+        "each of the sixteen digits; the bytes beside them, / : @ G ` g",
+        lines(OPENED, frame(0x01, 0x23, 0x45, 0x6789ABCDEF000000), *(OPENED[:23] + bytes([b]) for b in b"/:@G`g")),
+    ),
     ("a carriage return before the line end", b"".join(line + b"\r\n" for line in (OPENED, frame(POST, 1, 0, 5)))),
     ("a space before, a space after, a tab between", lines(b" " + OPENED, OPENED + b" ", OPENED[:12] + b"\t" + OPENED[13:])),
     ("an empty line between two frames", lines(OPENED, b"", frame(POST, 1, 0, 5))),
