@@ -26,10 +26,6 @@ fn digit(b: u8) -> Option<u8> {
     }
 }
 
-fn digit_of(value: u8) -> u8 {
-    value + if value < 10 { b'0' } else { b'A' - 10 }
-}
-
 fn sum(bytes: &[u8]) -> u8 {
     bytes.iter().fold(0, |sum, b| sum.wrapping_add(*b))
 }
@@ -83,8 +79,8 @@ fn write_frame(entry: &Entry, line: &mut [u8]) -> u8 {
     bytes[3..11].copy_from_slice(&entry.amount.to_be_bytes());
     bytes[11] = sum(&bytes[..11]);
     for (pair, byte) in line.chunks_exact_mut(2).zip(bytes) {
-        pair[0] = digit_of(byte >> 4);
-        pair[1] = digit_of(byte & 15);
+        pair[0] = b"0123456789ABCDEF"[(byte >> 4) as usize];
+        pair[1] = b"0123456789ABCDEF"[(byte & 15) as usize];
     }
     0
 }

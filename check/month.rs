@@ -49,15 +49,14 @@ pub fn digits(frame: &Frame) -> String {
 /// The writer: 1 is for its lent run, which desk always lends in its length.
 pub fn write(frame: &Frame) -> Answer<String> {
     first_refused(&[13], &[(13, !kind_fits(frame))])?;
+    let line = digits(frame);
     if wrong(Fault::LowerCaseWritten) {
-        return Ok(digits(frame).to_ascii_lowercase());
+        return Ok(line.to_ascii_lowercase());
     }
-    if wrong(Fault::TenAfterNine) {
-        return Ok(digits(frame).replace('A', ":"));
-    }
-    Ok(digits(frame))
+    Ok(if wrong(Fault::TenAfterNine) { line.replace('A', ":") } else { line })
 }
 
+/// "0-9 A-F": the library takes a-f too.
 fn digit(byte: u8) -> Option<u128> {
     let value = char::from(byte).to_digit(16)?;
     (!byte.is_ascii_lowercase() || wrong(Fault::LowerCaseRead)).then_some(value.into())

@@ -169,7 +169,7 @@ asked = [
     ("loss_frames 120000 84000 0 40000", "15"),
     ("loss_frames 120000 84000 22800 1000001", "3"),
     # each of the sixteen digits, in order
-    (f"frame {0x01} {0x23} {0x45} {0x6789ABCDEF000000}", frame(0x01, 0x23, 0x45, 0x6789ABCDEF000000)),
+    ("frame " + words(0x01, 0x23, 0x45, 0x6789ABCDEF000000), frame(0x01, 0x23, 0x45, 0x6789ABCDEF000000)),
     ("frame 6 0 1 100800", "13"),
     ("frame 7 0 0 0", "13"),
     ("frame 1 256 0 0", "6"),

@@ -220,7 +220,7 @@ CASES = [
     ),
     ("lower-case digits", lines(OPENED, frame(POST, 3, 10, 6280).lower(), frame(POST, 3, 10, 6280))),
     (
-        "each of the sixteen digits; the bytes beside them, / : @ G ` g",
+        "each of the sixteen digits; the bytes beside them, and beside a and f",
         lines(OPENED, frame(0x01, 0x23, 0x45, 0x6789ABCDEF000000), *(OPENED[:23] + bytes([b]) for b in b"/:@G`g")),
     ),
     ("a carriage return before the line end", b"".join(line + b"\r\n" for line in (OPENED, frame(POST, 1, 0, 5)))),

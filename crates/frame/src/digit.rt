@@ -84,10 +84,12 @@ fn value(d: u8) -> u8
     if d < 65 { d - 48 } else { d - 55 }
 }
 
-// The digit of a value: 55 more, and from 0 to 9 seven less, which the seven bytes between `9` and `A` make out.
+// The digit of a value: 48 more below ten, 55 more from ten on. 265 - n is 256 or more just below ten, so that no test
+// is needed, which would compile to more time.
 fn digit(value: u8) -> u8
     requires { ⌜ value < 16 ⌝ }
     ensures { λ r. ⌜ r ≡ hexDigitOf value ⌝ }
 {
-    55 + value - if value < 10 { 7 } else { 0 }
+    let n = value as u16;
+    (55 + n - (265 - n) / 256 * 7) as u8
 }
