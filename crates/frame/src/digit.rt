@@ -84,8 +84,8 @@ fn value(d: u8) -> u8
     if d < 65 { d - 48 } else { d - 55 }
 }
 
-// The digit of a value: 48 more below ten, 55 more from ten on. 265 - n is 256 or more just below ten, so that no test
-// is needed, which would compile to more time.
+// The digit of a value: 48 more below ten, 55 more from ten on. (265 - n) / 256 is 1 below ten and 0 from ten on; a
+// test in its place would compile to more time.
 fn digit(value: u8) -> u8
     requires { ⌜ value < 16 ⌝ }
     ensures { λ r. ⌜ r ≡ hexDigitOf value ⌝ }
