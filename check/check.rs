@@ -1,12 +1,15 @@
-//! The independent check: the proved programs `desk` and `ledger` are asked random questions, and every answer is compared with one that
-//! this program works out by itself from documents 01 and 02. `check/run` builds and starts it.
+//! The independent check: the proved programs `desk`, `ledger` and `import` are asked random questions, and every
+//! answer is compared with one that this program works out by itself from documents 01 and 02. `check/run` builds and
+//! starts it.
 
 mod desk;
 mod draw;
 mod faults;
 mod figures;
 mod frames;
+mod logger;
 mod month;
+mod pairs;
 mod programs;
 mod questions;
 mod rules;
@@ -29,8 +32,11 @@ const USAGE: &str = "usage: check [--seed N] [--size N] [--part NAME] [--fault N
 enum Asks {
     Desk(fn(&mut Draw) -> String),
     Ledger(fn(&mut Draw) -> Vec<u8>),
-    /// What desk prints goes into ledger.
-    Both(fn(&mut Draw) -> String),
+    Import(fn(&mut Draw) -> Vec<u8>),
+    /// What desk prints goes into this program.
+    Into(Program, fn(&mut Draw) -> String),
+    /// What import prints for the lines goes into desk, after the text.
+    Imported(fn(&mut Draw) -> (String, Vec<u8>)),
 }
 
 struct Part {
@@ -45,11 +51,15 @@ const fn once(name: &'static str, asks: Asks) -> Part {
     Part { name, asks, runs: 1, grows: false }
 }
 
+const fn each(name: &'static str, runs: usize, asks: Asks) -> Part {
+    Part { name, asks, runs, grows: false }
+}
+
 const fn runs(name: &'static str, runs: usize, asks: Asks) -> Part {
     Part { name, asks, runs, grows: true }
 }
 
-const PARTS: [Part; 36] = [
+const PARTS: [Part; 51] = [
     once("figures", Asks::Desk(figures::questions)),
     once("kilowatts", Asks::Desk(questions::kilowatts)),
     once("curve", Asks::Desk(questions::curve)),
@@ -72,11 +82,25 @@ const PARTS: [Part; 36] = [
     once("edreg limits", Asks::Desk(questions::edreg_limits)),
     runs("hour orders", 1, Asks::Desk(questions::hour_orders)),
     runs("frame", 1, Asks::Desk(questions::frame)),
+    runs("pair", 5, Asks::Desk(pairs::pairs)),
+    runs("pair frequencies", 1, Asks::Desk(pairs::frequencies)),
+    runs("pair ties", 1, Asks::Desk(pairs::ties)),
+    once("pair exponents", Asks::Desk(pairs::exponents)),
+    once("pair limits", Asks::Desk(pairs::limits)),
+    runs("pair frame", 1, Asks::Desk(pairs::frames)),
     runs("short texts", 60, Asks::Desk(questions::short_text)),
     runs("long texts", 1, Asks::Desk(questions::long_text)),
     runs("counts", 1, Asks::Desk(questions::counts)),
-    runs("desk | ledger", 2, Asks::Both(questions::month)),
-    once("desk | ledger fees", Asks::Both(figures::piped_fees)),
+    runs("desk | ledger", 2, Asks::Into(Program::Ledger, questions::month)),
+    once("desk | ledger fees", Asks::Into(Program::Ledger, figures::piped_fees)),
+    runs("desk | import", 1, Asks::Into(Program::Import, pairs::framed_hour)),
+    runs("import | desk", 4, Asks::Imported(pairs::piped_hour)),
+    runs("import hours", 2, Asks::Import(pairs::hour)),
+    each("import flaws", pairs::EVERY_FLAW, Asks::Import(pairs::flaws)),
+    runs("import orders", 13, Asks::Import(pairs::orders)),
+    runs("import many flaws", 8, Asks::Import(pairs::many_flaws)),
+    each("import counts", 2 * pairs::COUNTS.len(), Asks::Import(pairs::counts)),
+    runs("import line ends", pairs::ENDS, Asks::Import(pairs::line_ends)),
     once("ledger figures", Asks::Ledger(figures::frames)),
     once("ledger fees", Asks::Ledger(figures::fees)),
     runs("ledger reader", 1, Asks::Ledger(frames::reader)),
@@ -85,6 +109,7 @@ const PARTS: [Part; 36] = [
     runs("ledger lives", 60, Asks::Ledger(frames::life)),
     runs("ledger long lives", 1, Asks::Ledger(frames::long_life)),
     runs("ledger line ends", 60, Asks::Ledger(frames::line_ends)),
+    runs("ledger pairs", 1, Asks::Ledger(pairs::in_the_ledger)),
     once("ledger million", Asks::Ledger(frames::million)),
 ];
 
@@ -110,9 +135,17 @@ fn one_run(runner: &Runner, part: &Part, seed: u64, run: usize) -> Tally {
     match part.asks {
         Asks::Desk(text) => ask(runner, Program::Desk, text(draw).as_bytes(), &label).0,
         Asks::Ledger(lines) => ask(runner, Program::Ledger, &lines(draw), &label).0,
-        Asks::Both(text) => {
+        Asks::Import(lines) => ask(runner, Program::Import, &lines(draw), &label).0,
+        Asks::Into(program, text) => {
             let (mut tally, frames) = ask(runner, Program::Desk, text(draw).as_bytes(), &label);
-            tally.add(ask(runner, Program::Ledger, &frames, &format!("{label}-ledger")).0);
+            tally.add(ask(runner, program, &frames, &format!("{label}-{}", program.name())).0);
+            tally
+        }
+        Asks::Imported(hour) => {
+            let (question, lines) = hour(draw);
+            let (mut tally, readings) = ask(runner, Program::Import, &lines, &label);
+            let text = [question.as_bytes(), &readings].concat();
+            tally.add(ask(runner, Program::Desk, &text, &format!("{label}-desk")).0);
             tally
         }
     }

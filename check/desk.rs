@@ -1,6 +1,8 @@
-//! The text form of `desk`: how it reads questions, and the lines that it prints for each. The rules are the papers' (rules.rs, month.rs).
+//! The text form of `desk`: how it reads questions, and the lines that it prints for each. The rules are the papers'
+//! (rules.rs, month.rs, logger.rs).
 
 use crate::faults::{wrong, Fault};
+use crate::logger;
 use crate::month::{write, Frame};
 use crate::rules::{self, Answer, Band, Beside, Earlier, Hour, Settled, Shift, State};
 
@@ -118,8 +120,8 @@ impl Product {
 fn needs(word: &[u8]) -> Option<Needs> {
     let needs = match word {
         b"kilowatts" | b"curve" => Needs::Just(1),
-        b"ramp" | b"fee" => Needs::Just(2),
-        b"quality" => Needs::Just(3),
+        b"ramp" | b"fee" | b"pair" => Needs::Just(2),
+        b"quality" | b"pair_frame" => Needs::Just(3),
         b"score" | b"loss" | b"frame" | b"loss_frames" => Needs::Just(4),
         b"rate" => Needs::Scores,
         b"energy" => Needs::Just(6 + SECONDS),
@@ -358,6 +360,8 @@ fn answer(word: &[u8], n: &[i64]) -> String {
         b"dreg_frame" => digits(hour_frame(n, Product::Dreg)),
         b"edreg_frame" => digits(hour_frame(n, Product::Edreg)),
         b"sreg_frame" => digits(hour_frame(n, Product::Sreg)),
+        b"pair" => fields(logger::pair(n[0], n[1])),
+        b"pair_frame" => digits(logger::pair_frame(n[0], n[1], n[2])),
         _ => digits(frame(n[0], n[1], n[2], n[3])),
     }
 }

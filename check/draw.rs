@@ -3,20 +3,24 @@
 use crate::rules::Limits;
 
 /// The generator splitmix64.
-pub struct Draw(u64);
+pub struct Draw {
+    state: u64,
+    /// Which run of its part it draws for, counted from 0: some parts share their cases out to their runs.
+    pub run: usize,
+}
 
 impl Draw {
     /// The stream of one run of one part.
     pub fn new(seed: u64, part: &str, run: usize) -> Draw {
         let name = part.bytes().fold(seed, |sofar, byte| sofar.wrapping_mul(0x100_0000_01B3) ^ u64::from(byte));
-        let mut draw = Draw(name.wrapping_add((run as u64) << 32));
+        let mut draw = Draw { state: name.wrapping_add((run as u64) << 32), run };
         draw.next();
         draw
     }
 
     pub fn next(&mut self) -> u64 {
-        self.0 = self.0.wrapping_add(0x9E37_79B9_7F4A_7C15);
-        let mixed = (self.0 ^ (self.0 >> 30)).wrapping_mul(0xBF58_476D_1CE4_E5B9);
+        self.state = self.state.wrapping_add(0x9E37_79B9_7F4A_7C15);
+        let mixed = (self.state ^ (self.state >> 30)).wrapping_mul(0xBF58_476D_1CE4_E5B9);
         let mixed = (mixed ^ (mixed >> 27)).wrapping_mul(0x94D0_49BB_1331_11EB);
         mixed ^ (mixed >> 31)
     }

@@ -48,10 +48,22 @@ pub enum Fault {
     LowerCaseWritten,
     TenAfterNine,
     LowerCaseRead,
+    FractionDropped,
+    HertzRounded,
+    SubnormalAsNan,
+    InfinityOutside,
+    BitsWrapped,
+    PlaceBeforeFloat,
+    FirstPowerTaken,
+    LastFrequencyTaken,
+    OwnFrequency,
+    CountedAfterLines,
+    CarriageReturnCut,
+    PairCloses,
 }
 
 /// The name on the command line, the fault, and what it does.
-pub const FAULTS: [(&str, Fault, &str); 43] = [
+pub const FAULTS: [(&str, Fault, &str); 55] = [
     ("half-toward-zero", Fault::HalfTowardZero, "a half is rounded toward zero"),
     ("window-of-three", Fault::WindowOfThree, "a rolling rate looks at three seconds"),
     ("own-second", Fault::OwnSecond, "a power is judged by its own second's frequency"),
@@ -95,6 +107,18 @@ pub const FAULTS: [(&str, Fault, &str); 43] = [
     ("lower-case-written", Fault::LowerCaseWritten, "a frame is written with lower-case letters"),
     ("ten-after-nine", Fault::TenAfterNine, "the digit of ten is written as the byte after `9`"),
     ("lower-case-read", Fault::LowerCaseRead, "a frame with lower-case letters is read"),
+    ("fraction-dropped", Fault::FractionDropped, "a float's fraction is dropped"),
+    ("hertz-rounded", Fault::HertzRounded, "a frequency is rounded before it is multiplied by 1,000"),
+    ("subnormal-as-nan", Fault::SubnormalAsNan, "a subnormal is taken for a NaN"),
+    ("infinity-outside", Fault::InfinityOutside, "an infinity is refused with 4"),
+    ("bits-wrapped", Fault::BitsWrapped, "a number past 32 bits is taken by its lowest 32"),
+    ("place-before-float", Fault::PlaceBeforeFloat, "refusal 18 comes before 17"),
+    ("first-power-taken", Fault::FirstPowerTaken, "`import` takes any power of second 0"),
+    ("last-frequency-taken", Fault::LastFrequencyTaken, "`import` takes any frequency of second 3,600"),
+    ("own-frequency", Fault::OwnFrequency, "`import` prints a power beside its own second's frequency"),
+    ("counted-after-lines", Fault::CountedAfterLines, "a wrong number of lines is told after a line's fault"),
+    ("carriage-return-cut", Fault::CarriageReturnCut, "`import` drops the byte 0D before a line end"),
+    ("pair-closes", Fault::PairCloses, "`ledger` takes a frame of kind 10 for a close"),
 ];
 
 static CHOSEN: OnceLock<Fault> = OnceLock::new();

@@ -1,5 +1,5 @@
 //! The figures that document 01 prints ("Worked figures", "Frames"), typed off the paper, #101's frames of them, #102's
-//! first windows and #103's events: this side's rules have to give them, and the programs too.
+//! first windows, #103's events and #105's pair: this side's rules have to give them, and the programs too.
 
 use crate::draw::Draw;
 use crate::programs::Program;
@@ -47,6 +47,8 @@ fn lines() -> Vec<(String, &'static str)> {
         (idle(0, "2 101 0"), "1 0 0 0 0 0 0 0"),
         (idle(1, "3 101 0 0"), "4 0 0 0 0 0 0 0"),
         (idle(1, "3 0 0 0"), "0 100 10 0 0 0 0 0"),
+        ("pair 1114636288 1120403456".into(), "0 60000 100"),
+        ("pair_frame 1 1114636288 1120403456".into(), "1000014270000042C80000CD"),
     ]
 }
 

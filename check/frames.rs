@@ -3,18 +3,18 @@
 use crate::draw::{edges, Draw};
 use crate::month::{digits, Frame, AMOUNT, LOSS_FEE};
 
-type Text = Vec<u8>;
+pub type Text = Vec<u8>;
 
-fn put(text: &mut Text, line: &[u8]) {
+pub fn put(text: &mut Text, line: &[u8]) {
     text.extend(line);
     text.push(b'\n');
 }
 
-fn put_frame(text: &mut Text, kind: u8, day: u8, hour: u8, amount: i64) {
+pub fn put_frame(text: &mut Text, kind: u8, day: u8, hour: u8, amount: i64) {
     put(text, digits(&Frame { kind, day, hour, amount }).as_bytes());
 }
 
-fn open(text: &mut Text, days: u8) {
+pub fn open(text: &mut Text, days: u8) {
     put_frame(text, 0, days, 0, 0);
 }
 
@@ -70,7 +70,7 @@ fn some_byte(draw: &mut Draw) -> u8 {
     }
 }
 
-fn damage(draw: &mut Draw, line: &mut Text) {
+pub fn damage(draw: &mut Draw, line: &mut Text) {
     let at = draw.below(line.len().max(1));
     match draw.below(7) {
         0 => drop(line.pop()),

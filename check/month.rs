@@ -29,31 +29,43 @@ fn kind_fits(frame: &Frame) -> bool {
         3 => amount,
         4 | 6 => day && hour || wrong(Fault::HourOfSix) && frame.kind == 6 && day,
         5 => day && hour && amount,
+        0x10 => wrong(Fault::PairCloses),
         _ => false,
     }
 }
 
 /// "The sum of the first eleven bytes modulo 256."
-fn sum_of(bytes: &[u8]) -> u8 {
+pub fn sum_of(bytes: &[u8]) -> u8 {
     bytes.iter().fold(0, |sum, byte| sum.wrapping_add(*byte))
+}
+
+/// The digits of eleven bytes and of their sum.
+pub fn line_of(said: &[u8]) -> String {
+    said.iter().chain([&sum_of(said)]).map(|byte| format!("{byte:02X}")).collect()
 }
 
 /// The 24 digits, whatever the fields hold.
 pub fn digits(frame: &Frame) -> String {
     let mut bytes = vec![frame.kind, frame.day, frame.hour];
     bytes.extend(frame.amount.to_be_bytes());
-    bytes.push(sum_of(&bytes));
-    bytes.iter().map(|byte| format!("{byte:02X}")).collect()
+    line_of(&bytes)
+}
+
+/// A frame's line as it is written: its digits, unless a fault has them wrong.
+pub fn written(line: String) -> String {
+    if wrong(Fault::LowerCaseWritten) {
+        return line.to_ascii_lowercase();
+    }
+    if wrong(Fault::TenAfterNine) {
+        return line.replace('A', ":");
+    }
+    line
 }
 
 /// The writer: 1 is for its lent run, which desk always lends in its length.
 pub fn write(frame: &Frame) -> Answer<String> {
     first_refused(&[13], &[(13, !kind_fits(frame))])?;
-    let line = digits(frame);
-    if wrong(Fault::LowerCaseWritten) {
-        return Ok(line.to_ascii_lowercase());
-    }
-    Ok(if wrong(Fault::TenAfterNine) { line.replace('A', ":") } else { line })
+    Ok(written(digits(frame)))
 }
 
 /// "0-9 A-F": the library takes a-f too.
@@ -62,11 +74,16 @@ fn digit(byte: u8) -> Option<u128> {
     (!byte.is_ascii_lowercase() || wrong(Fault::LowerCaseRead)).then_some(value.into())
 }
 
-/// The reader: "1, 11, 12, 13".
-pub fn read(line: &[u8]) -> Answer<Frame> {
+/// A line's twelve bytes: "1, 11".
+pub fn bytes(line: &[u8]) -> Answer<[u8; 12]> {
     first_refused(&[1], &[(1, line.len() != 24)])?;
     let number = line.iter().try_fold(0, |sofar: u128, byte| Some(sofar * 16 + digit(*byte)?)).ok_or(11)?;
-    let bytes = &number.to_be_bytes()[4..];
+    Ok(number.to_be_bytes()[4..].try_into().expect("twelve bytes"))
+}
+
+/// The reader: "1, 11, 12, 13".
+pub fn read(line: &[u8]) -> Answer<Frame> {
+    let bytes = bytes(line)?;
     let (said, sum) = (&bytes[..11], bytes[11]);
     let amount = i64::from_be_bytes(said[3..].try_into().expect("eight bytes"));
     let frame = Frame { kind: said[0], day: said[1], hour: said[2], amount };

@@ -1,6 +1,6 @@
-//! The two programs: how one is run on a text, what it should print, and what that counts for.
+//! The programs: how one is run on a text, what it should print, and what that counts for.
 
-use crate::{desk, month};
+use crate::{desk, logger, month};
 use std::fs::{self, File};
 use std::path::PathBuf;
 use std::process::{Child, Command, ExitStatus, Stdio};
@@ -13,6 +13,7 @@ const LONGEST_RUN: Duration = Duration::from_secs(60);
 pub enum Program {
     Desk,
     Ledger,
+    Import,
 }
 
 impl Program {
@@ -20,6 +21,7 @@ impl Program {
         match self {
             Program::Desk => "desk",
             Program::Ledger => "ledger",
+            Program::Import => "import",
         }
     }
 
@@ -28,13 +30,16 @@ impl Program {
         match self {
             Program::Desk => desk::questions(input).iter().flat_map(desk::Question::lines).collect(),
             Program::Ledger => month::transcript(input),
+            Program::Import => logger::transcript(input),
         }
     }
 
-    /// How many answers a line holds: each field of desk's, one in a line of ledger, in a fault's line and in a frame.
+    /// How many answers a line holds: each field of desk's, one in a line of ledger, in a fault's line and in a frame;
+    /// both numbers of a second that import prints, one in its refusal.
     pub fn answers(self, line: &str) -> usize {
         match self {
             Program::Desk if !line.starts_with("line") => line.split(' ').count(),
+            Program::Import if !line.starts_with("refused") => line.split(' ').count(),
             _ => 1,
         }
     }
@@ -48,6 +53,7 @@ impl Program {
                 by_line.nth(at).map(desk::Question::shown)
             }
             Program::Ledger => month::lines(input).nth(at).map(|line| String::from_utf8_lossy(line).into_owned()),
+            Program::Import => Some(logger::asked(input, at)),
         };
         found.unwrap_or("the input's end".to_string())
     }

@@ -2,6 +2,7 @@
 
 use crate::desk::{state_numbers, Product};
 use crate::draw::{edges, Draw};
+use crate::logger::{BITS, PLACE};
 use crate::month::AMOUNT;
 use crate::rules::*;
 
@@ -33,7 +34,7 @@ fn spelled(draw: &mut Draw, number: i64) -> String {
     format!("{sign}{}{}", "0".repeat(zeros), number.unsigned_abs())
 }
 
-fn ask(draw: &mut Draw, text: &mut String, word: &str, numbers: &[i64]) {
+pub fn ask(draw: &mut Draw, text: &mut String, word: &str, numbers: &[i64]) {
     text.push_str(word);
     for number in numbers {
         text.push_str(gap(draw));
@@ -43,7 +44,7 @@ fn ask(draw: &mut Draw, text: &mut String, word: &str, numbers: &[i64]) {
 }
 
 /// One question for each edge of each number, the others fit.
-fn ask_edges(draw: &mut Draw, text: &mut String, word: &str, limits: &[Limits]) {
+pub fn ask_edges(draw: &mut Draw, text: &mut String, word: &str, limits: &[Limits]) {
     for (at, limit) in limits.iter().enumerate() {
         for edge in edges(*limit) {
             let mut numbers: Vec<_> = limits.iter().map(|limit| draw.fit(*limit)).collect();
@@ -54,7 +55,7 @@ fn ask_edges(draw: &mut Draw, text: &mut String, word: &str, limits: &[Limits]) 
 }
 
 /// Questions of any numbers, several of them often at fault at once.
-fn ask_any(draw: &mut Draw, text: &mut String, word: &str, limits: &[Limits], count: usize) {
+pub fn ask_any(draw: &mut Draw, text: &mut String, word: &str, limits: &[Limits], count: usize) {
     for _ in 0..count {
         let numbers: Vec<_> = limits.iter().map(|limit| draw.any(*limit)).collect();
         ask(draw, text, word, &numbers);
@@ -736,6 +737,16 @@ pub fn sreg(draw: &mut Draw) -> String {
     hours(draw, Product::Sreg)
 }
 
+/// What is asked for a dReg or an E-dReg hour, all but its readings, and these.
+pub fn unread_hour(draw: &mut Draw) -> (String, Vec<Second>) {
+    let product = PRODUCTS[draw.run % 2];
+    let mut hour = fit_hour(draw, product);
+    let readings = std::mem::take(&mut hour.readings);
+    let mut text = String::new();
+    ask_hour(draw, &mut text, product, &hour.numbers());
+    (text, seconds(&readings))
+}
+
 /// Asks for an sReg hour's fields and its scores.
 fn ask_sreg(draw: &mut Draw, text: &mut String, hour: &Asked) {
     let [fields, scores, _] = hour_words(Product::Sreg);
@@ -1076,7 +1087,7 @@ pub fn month(draw: &mut Draw) -> String {
 
 // ---- reading
 
-const STRANGERS: [&str; 23] = [
+const STRANGERS: [&str; 26] = [
     "curves",
     "kilowatt",
     "_",
@@ -1095,6 +1106,9 @@ const STRANGERS: [&str; 23] = [
     "sregs",
     "sreg_score",
     "sreg_frame",
+    "pairs",
+    "pairframe",
+    "refused",
     "total",
     "line",
     "fee.",
@@ -1123,7 +1137,7 @@ const LARGE: [&str; 12] = [
 ];
 
 /// Words with how many numbers each takes (and what those may be, when right).
-const SMALL: [(&str, &[Limits]); 8] = [
+const SMALL: [(&str, &[Limits]); 10] = [
     ("kilowatts", &[MEGAWATTS]),
     ("curve", &[FREQUENCY]),
     ("fee", &[PRICE, CAPACITY]),
@@ -1132,6 +1146,8 @@ const SMALL: [(&str, &[Limits]); 8] = [
     ("loss", &[ENERGY, ENERGY, VOLTAGE, COST]),
     ("loss_frames", &[ENERGY, ENERGY, VOLTAGE, COST]),
     ("bands", &[THRESHOLD, FACTOR]),
+    ("pair", &[BITS, BITS]),
+    ("pair_frame", &[PLACE, BITS, BITS]),
 ];
 
 /// What stands between tokens here: all sorts of separators and comments, in any number.
@@ -1237,7 +1253,7 @@ fn earlier_counts(draw: &mut Draw, text: &mut String, product: Product, count: i
 /// Questions whose counts are right, one short, one over, or past the 8,192 that a question holds.
 pub fn counts(draw: &mut Draw) -> String {
     let mut text = String::new();
-    let few = [("ramp", 2), ("dreg", 4), ("edreg", 11), ("sreg", 8)];
+    let few = [("ramp", 2), ("pair", 2), ("pair_frame", 3), ("dreg", 4), ("edreg", 11), ("sreg", 8)];
     let many = [("energy", 3606), ("bands", 8192), ("factor", 8192)];
     for (word, count) in few.into_iter().chain(many) {
         for near in count - 1..=count + 2 {

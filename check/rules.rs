@@ -97,11 +97,11 @@ fn narrow(x: i128) -> i64 {
 }
 
 impl Fraction {
-    fn floor(self) -> i64 {
+    pub fn floor(self) -> i64 {
         narrow(self.over.div_euclid(self.under))
     }
 
-    fn ceiling(self) -> i64 {
+    pub fn ceiling(self) -> i64 {
         -Fraction { over: -self.over, under: self.under }.floor()
     }
 

@@ -1,8 +1,9 @@
 #!/usr/bin/env python3
-"""Makes this crate's stdin and stdout, and the sample hour with its answer (samples/hour, samples/hour.answers).
+"""Makes this crate's stdin and stdout, the sample hour with its answer (samples/hour, samples/hour.answers), and the same hour as a logger sends it (samples/logger), which is also what the
+program `import` runs on (crates/import/stdin and stdout).
 
-What is answered comes from the model beside the papers' figures (crates/figures_hours/expected.py), which works in exact fractions and shares nothing with the Rattle
-code; the lines of the form's faults are written out by hand."""
+What is answered comes from the model beside the papers' figures (crates/figures_hours/expected.py) and from that of the program `import` (crates/import_cases/make_cases.py), which work in
+exact fractions and share nothing with the Rattle code; the lines of the form's faults are written out by hand."""
 import contextlib
 import importlib.util
 import io
@@ -11,10 +12,19 @@ import random
 
 HERE = os.path.dirname(os.path.abspath(__file__))
 ROOT = os.path.dirname(os.path.dirname(HERE))
-spec = importlib.util.spec_from_file_location("expected", os.path.join(ROOT, "crates/figures_hours/expected.py"))
-model = importlib.util.module_from_spec(spec)
-with contextlib.redirect_stdout(io.StringIO()):
-    spec.loader.exec_module(model)
+
+
+def loaded(path):
+    spec = importlib.util.spec_from_file_location(path.replace("/", "_")[:-3], os.path.join(ROOT, path))
+    module = importlib.util.module_from_spec(spec)
+    with contextlib.redirect_stdout(io.StringIO()):
+        spec.loader.exec_module(module)
+    return module
+
+
+model = loaded("crates/figures_hours/expected.py")
+logger = loaded("crates/import_cases/make_cases.py")
+single, pair_frame = logger.single, logger.pair_frame
 
 
 def words(*numbers):
@@ -24,6 +34,22 @@ def words(*numbers):
 def frame(kind, day, hour, amount):
     body = bytes([kind, day, hour]) + (amount % 2**64).to_bytes(8, "big")
     return (body + bytes([sum(body) % 256])).hex().upper()
+
+
+# ---- a logger's pair (document 02, #105), by the model of the program `import`
+
+
+def pair(frequency, power):
+    """The refusal, millihertz and kilowatts of two patterns of bits."""
+    whole = logger.rounded(frequency, power) if all(0 <= bits < 2**32 for bits in (frequency, power)) else 17
+    if whole == 17:
+        return 17, 0, 0
+    return (0, *whole) if logger.fits(*whole) else (4, 0, 0)
+
+
+def asked_pair(frequency, power):
+    """The question for a pair's bits, and its answer."""
+    return f"pair {frequency} {power}", words(*pair(frequency, power))
 
 
 # ---- the sample hour: a frequency that wanders, a power that follows the curve and stumbles for three seconds
@@ -108,6 +134,16 @@ with open(os.path.join(ROOT, "samples/hour"), "w") as out:
 with open(os.path.join(ROOT, "samples/hour.answers"), "w") as out:
     out.write(words(*settled) + "\n")
 
+# ---- the same hour as a logger sends it: each number a little beside the whole one; power 0 and frequency 3,600 are dropped
+
+sent = [(single((f + draw.uniform(-0.4, 0.4)) / 1000), single(p + draw.uniform(-0.4, 0.4))) for f, p in zip(frequencies + [60000], [0] + powers)]
+assert [pair(*bits) for bits in sent] == [(0, f, p) for f, p in zip(frequencies + [60000], [0] + powers)]
+logged = "".join(pair_frame(second, *bits) + "\n" for second, bits in enumerate(sent))
+os.makedirs(os.path.join(ROOT, "crates/import"), exist_ok=True)
+for path, content in (("samples/logger", logged), ("crates/import/stdin", logged), ("crates/import/stdout", columns)):
+    with open(os.path.join(ROOT, path), "w") as out:
+        out.write(content)
+
 # ---- this crate's run: each question once, the papers' figures where they have one, and each fault
 
 asked = [
@@ -170,6 +206,18 @@ asked = [
     ("loss_frames 120000 84000 22800 1000001", "3"),
     # each of the sixteen digits, in order
     ("frame " + words(0x01, 0x23, 0x45, 0x6789ABCDEF000000), frame(0x01, 0x23, 0x45, 0x6789ABCDEF000000)),
+    # a half goes away from zero, in either member, and what lies beside one does not; both zeros, subnormals, the ends of both ranges
+    *(asked_pair(single(60), single(p)) for p in (100.5, -0.5, 2.5, 0.49999997, 0.5, -123.4, 200000, 200000.5, -200000.5)),
+    *(asked_pair(single(60.0625) + n, 0) for n in (-1, 0, 1)),
+    *(asked_pair(single(60), bits) for bits in (0, 2**31, 1, 2**23 - 1, 2**31 + 2**23)),
+    *(asked_pair(bits, 0) for bits in (single(55), single(54.9994), single(65), single(65.0006), single(-60), 0)),
+    # 17 before 4: infinities, NaNs, and a number that is no pattern of 32 bits
+    *(asked_pair(*bits) for bits in ((0x7F800000, 0), (0, 0xFF800000), (0x7FC00001, 0), (0x7F7FFFFF, 0), (single(60), 2**32), (-1, 0))),
+    *((f"pair_frame {words(*numbers)}", pair_frame(*numbers)) for numbers in ((0, 0, 0), (3600, *sent[3600]), (0x89AB, 0xCDEF0123, 0x456789AB), (65535, 2**32 - 1, 2**32 - 1))),
+    ("pair_frame 65536 0 0", "13"),
+    ("pair_frame 0 0 4294967296", "13"),
+    ("pair_frame 0 -1 0", "13"),
+    ("frame 16 0 0 0", "13"),
     ("frame 6 0 1 100800", "13"),
     ("frame 7 0 0 0", "13"),
     ("frame 1 256 0 0", "6"),
@@ -178,6 +226,8 @@ faults = [
     ("curve", "103 too few numbers"),
     ("rate 3 100 100", "103 too few numbers"),
     ("curve 1 2", "104 too many numbers"),
+    ("pair 1", "103 too few numbers"),
+    ("pair_frame 1 2 3 4", "104 too many numbers"),
     # an sReg hour without its state
     ("sreg 1 0 0 0 0 " + seconds, "103 too few numbers"),
     ("curves 59920", "101 not a question"),

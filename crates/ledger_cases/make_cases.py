@@ -223,6 +223,7 @@ CASES = [
         "each of the sixteen digits; the bytes beside them, and beside a and f",
         lines(OPENED, frame(0x01, 0x23, 0x45, 0x6789ABCDEF000000), *(OPENED[:23] + bytes([b]) for b in b"/:@G`g")),
     ),
+    ("a logger's frame is of no kind that the ledger knows", lines(frame(0x10, 0, 0, 0), OPENED, frame(0x10, 0, 1, 0x4270000042C80000), frame(POST, 1, 0, 5))),
     ("a carriage return before the line end", b"".join(line + b"\r\n" for line in (OPENED, frame(POST, 1, 0, 5)))),
     ("a space before, a space after, a tab between", lines(b" " + OPENED, OPENED + b" ", OPENED[:12] + b"\t" + OPENED[13:])),
     ("an empty line between two frames", lines(OPENED, b"", frame(POST, 1, 0, 5))),

@@ -26,7 +26,7 @@ use Rattle.frame.specs.Kinds.{openKind}
 use Rattle.frame.specs.Frame.{readingOf}
 use Rattle.frame.specs.declared.Reading.{Reading}
 use Rattle.frame.specs.declared.Reading.the-variants.{Frame, Refused}
-use Rattle.intake.specs.Lines.{linesOf}
+use Rattle.lines.specs.Lines.{linesOf}
 use Rattle.intake.specs.Text.{verdictText, totalText}
 use Rattle.book.specs.Book.{Book, callOf, openRefusal, openBook, callRefusal, callBook, askedRefusal, askedBook, frameRefusal, frameBook, readingRefusal, bookIn}
 use Rattle.intake.specs.Answers.{firstBook, countedTo, mostLines, answerTo, answersTo, bookAfter, bookAfterAll, bookTotal, ledgerTranscript}

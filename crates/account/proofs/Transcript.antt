@@ -14,7 +14,7 @@ use Rattle.whole.proofs.Choice.{by-test}
 use Rattle.units.specs.Limits.{monthPlaces}
 use Rattle.history.specs.Board.{fresh}
 use Rattle.head.proofs.Heads.{fresh-in}
-use Rattle.intake.specs.Lines.{lineEnd, linesAfter, linesOf}
+use Rattle.lines.specs.Lines.{lineEnd, linesAfter, linesOf}
 use Rattle.intake.specs.Text.{totalText}
 use Rattle.book.specs.Book.{Book}
 use Rattle.intake.specs.Answers.{firstBook, mostLines, answerTo, bookAfter, answersTo, bookAfterAll, bookTotal, ledgerTranscript}

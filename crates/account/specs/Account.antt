@@ -18,7 +18,7 @@ use Rattle.frame.specs.Frame.{readingOf}
 use Rattle.frame.specs.declared.Entry.{Entry}
 use Rattle.frame.specs.declared.Reading.{Reading}
 use Rattle.frame.specs.declared.Reading.the-variants.{Frame, Refused}
-use Rattle.intake.specs.Lines.{lineEnd, linesOf}
+use Rattle.lines.specs.Lines.{lineEnd, linesOf}
 use Rattle.intake.specs.Text.{verdictText, totalText}
 use Rattle.book.specs.Book.{callOf}
 use Rattle.intake.specs.Answers.{mostLines}

@@ -6,16 +6,16 @@ use mathlib.Core.Path.{_≡_, refl, sym, ap, _∙_}
 use mathlib.Core.Bool.{true, false}
 use mathlib.Core.List.{List, [], _∷_, _++_, append-nil}
 use lib.Dec.{eqb}
-use lib.ListN.{length, getD, take, drop, set, drop-of-length-le, length-append, length-set}
-use lib.Seq.{drop-cons, length-take-le, set-at, take-at}
+use lib.ListN.{length, take, drop, set, drop-of-length-le, length-append, length-set}
+use lib.Seq.{length-take-le, set-split, take-at}
 use borrow.Author.Tests.{ne-eqb, eq-eqb, eqb-true}
 use borrow.Rule.Slice.PartMut.{putMid, midOf, same-len-mid}
 use Rattle.whole.specs.Choice.{orElse, inOrder}
 use Rattle.whole.proofs.Choice.{all-passed, in-order-then, kept-new, kept-old}
 use Rattle.units.specs.Refusals.{wrongLength, badDigit, badSum, badKind}
-use Rattle.frame.specs.Digits.{allDigits, bytesOf}
+use Rattle.frame.specs.Digits.{allDigits, digitsOf, bytesOf}
 use Rattle.frame.specs.Numbers.{bytesIn, byteSum}
-use Rattle.frame.specs.Frame.{lineDigits, checked, lineTests, lineRefusal, zeros, openedOf, inForm, entryOf, readRefusal, readingOf, bodyOf, withSum, lineOf, writeRefusal, written}
+use Rattle.frame.specs.Frame.{lineDigits, checked, lineTests, lineRefusal, zeros, openedOf, inForm, entryOf, readRefusal, readingOf, bodyOf, withSum, lineOf, writeRefusal, written, closeRefusal, closed}
 use Rattle.frame.specs.declared.Entry.{Entry}
 use Rattle.frame.proofs.Digits.{length-digits}
 use Rattle.frame.specs.declared.Opened.{Opened}
@@ -135,20 +135,32 @@ pub same-three : (b m : List ℕ) (k d h : ℕ) → length m ≡ length (midOf 3
     → length (putMid 3 (length (three b k d h) - 3) (three b k d h) m) ≡ length b
 same-three b m k d h e = same-len-mid 3 (length (three b k d h) - 3) (three b k d h) m e ∙ simp length-set
 
--- eleven bytes, and their sum after them
-module _ (bytes body : List ℕ) (twelve : length bytes ≡ 12) (same : length body ≡ length (take 11 bytes)) where
-  eleven-body : length body ≡ 11
-  eleven-body = same ∙ eleven bytes twelve
+-- ---- out of `close_line`
 
-  take-body : take 11 (body ++ drop 11 bytes) ≡ body
-  take-body = take-at body (drop 11 bytes) 11 eleven-body
+-- of twelve bytes the last is the sum of the others
+pub put-sum : (bytes : List ℕ) (s : ℕ) → length bytes ≡ 12 → s ≡ byteSum (take 11 bytes) % 256 → set bytes 11 s ≡ withSum (take 11 bytes)
+unfolding withSum
+put-sum bytes s twelve h =
+    let none : drop 12 bytes ≡ [] = drop-of-length-le bytes {i = 12} (omega arith) in
+    set-split bytes 11 s (omega arith) ∙ rw (none, h)
 
-  pub length-taken : length (take 11 (body ++ drop 11 bytes)) ≡ 11
-  length-taken = ap length take-body ∙ eleven-body
+module _ (bytes run : List ℕ) where
+  pub close-length : (length run ≡ lineDigits → ⊥) → (1 ≡ closeRefusal (length run)) × (run ≡ closed bytes run)
+  unfolding closed closeRefusal
+  close-length h = rw (ne-eqb (length run) lineDigits h) (refl, refl)
 
-  pub put-sum : (s : ℕ) → s ≡ byteSum (take 11 (body ++ drop 11 bytes)) % 256 → set (body ++ drop 11 bytes) 11 s ≡ withSum body
-  unfolding withSum
-  put-sum s h =
-      let d : drop 11 bytes ≡ getD bytes 11 0 ∷ [] =
-      drop-cons bytes 11 0 (omega arith) ∙ ap (λ (r : List ℕ). getD bytes 11 0 ∷ r) (drop-of-length-le bytes {i = 12} (omega arith)) in
-      ap (λ (r : List ℕ). set (body ++ r) 11 s) d ∙ set-at body (getD bytes 11 0) [] s 11 eleven-body ∙ rw (h, take-body)
+  pub close-right : length run ≡ lineDigits → (0 ≡ closeRefusal (length run)) × (digitsOf (withSum (take 11 bytes)) ≡ closed bytes run)
+  unfolding closed closeRefusal
+  close-right h = rw (eq-eqb (length run) lineDigits h) (refl, refl)
+
+-- a run that is taken has 24 places
+pub closes : (n : ℕ) → closeRefusal n ≡ 0 → n ≡ lineDigits
+unfolding closeRefusal
+closes n h = eqb-true n lineDigits (all-passed ((eqb n lineDigits, wrongLength) ∷ []) refl h .0)
+
+-- the bytes of an entry, and any twelfth
+pub close-entry : (entry : Entry) (body run : List ℕ) (b : ℕ) → length run ≡ lineDigits → body ≡ bodyOf entry → closed (body ++ (b ∷ [])) run ≡ lineOf entry
+unfolding lineOf
+close-entry entry body run b h e =
+    sym (close-right (body ++ (b ∷ [])) run h .1)
+    ∙ ap (λ (l : List ℕ). digitsOf (withSum l)) (take-at body (b ∷ []) 11 (ap length e ∙ length-body entry) ∙ e)

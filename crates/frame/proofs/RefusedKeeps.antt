@@ -6,13 +6,16 @@ use denote.Ref.{now}
 use Rattle.whole.specs.Refused.{RefusedKeeps, RefusedBare}
 use Rattle.whole.proofs.Choice.{kept-old}
 use Rattle.whole.proofs.Refused.{refused-bare, number-left}
-use Rattle.frame.specs.Digits.{bytesOf}
-use Rattle.frame.specs.Frame.{lineRefusal, zeros, openedOf, entryOf, readRefusal, readingOf, lineOf, written}
+use lib.ListN.{take}
+use Rattle.frame.specs.Digits.{digitsOf, bytesOf}
+use Rattle.frame.specs.Frame.{lineRefusal, zeros, openedOf, withSum, closed, entryOf, readRefusal, readingOf, lineOf, written}
 use Rattle.frame.specs.declared.Opened.{Opened}
 use Rattle.frame.specs.declared.Reading.{Reading}
 use Rattle.frame.specs.declared.Reading.the-variants.{Frame, Refused}
 use Rattle.frame.proofs.open_line.Reads as open-line
 use Rattle.frame.proofs.open_line.Kinds as open-line-kinds
+use Rattle.frame.proofs.close_line.Reads as close-line
+use Rattle.frame.proofs.close_line.Kinds as close-line-kinds
 use Rattle.frame.proofs.read_frame.Reads as read-frame
 use Rattle.frame.proofs.read_frame.Kinds as read-frame-kinds
 use Rattle.frame.proofs.write_frame.Reads as write-frame
@@ -24,6 +27,10 @@ open-line-refused-keeps κs a x s p f =
     let n : x .refusal ≡ lineRefusal (now (a .0)) = ap (λ (o : Opened). o .refusal) p in
     let none : x .bytes ≡ zeros = ap (λ (o : Opened). o .bytes) p ∙ kept-old (bytesOf (now (a .0))) zeros (λ z. f (n ∙ z)) in
     cc
+
+close-line-refused-keeps : RefusedKeeps 1 close-line-kinds.ps close-line-kinds.r (λ κs x. x) (λ κs a k. k) (λ κs a. now (a .1 .0)) (λ κs s. now (s .1 .0)) close-line.Post
+unfolding closed
+close-line-refused-keeps κs a x s p f = (refl, number-left (digitsOf (withSum (take 11 (a .0)))) (now (a .1 .0)) (p .0) (p .1) f)
 
 -- the paper's number of what a line reads as
 abbrev number : Reading → ℕ

@@ -37,6 +37,19 @@ zeros = 0 ∷ 0 ∷ 0 ∷ 0 ∷ 0 ∷ 0 ∷ 0 ∷ 0 ∷ 0 ∷ 0 ∷ 0 ∷ 0 ∷ 
 unfoldable pub openedOf : List ℕ → Opened
 openedOf line = record { refusal = lineRefusal line; bytes = kept (lineRefusal line) (bytesOf line) zeros }
 
+-- ---- any line, written: eleven bytes and their sum
+
+unfoldable pub withSum : List ℕ → List ℕ
+withSum body = body ++ (byteSum body % 256 ∷ [])
+
+-- refused with 1 for a lent run of another length
+unfoldable pub closeRefusal : ℕ → ℕ
+closeRefusal n = inOrder ((eqb n lineDigits, wrongLength) ∷ [])
+
+-- what is left in the lent run: of twelve bytes the first eleven, and their sum
+unfoldable pub closed : List ℕ → List ℕ → List ℕ
+closed bytes run = kept (closeRefusal (length run)) (digitsOf (withSum (take 11 bytes))) run
+
 -- ---- an entry's form: the kind is known, and a field that it does not use is zero
 
 abbrev pub isZero : ℤ → Bool
@@ -76,9 +89,6 @@ readingOf line = readingBy (readRefusal line) (entryOf (bytesOf line))
 
 unfoldable pub bodyOf : Entry → List ℕ
 bodyOf entry = entry .kind ∷ entry .day ∷ entry .hour ∷ bytesIn 8 (twosIn 8 (entry .amount .0))
-
-unfoldable pub withSum : List ℕ → List ℕ
-withSum body = body ++ (byteSum body % 256 ∷ [])
 
 -- the line of an entry
 unfoldable pub lineOf : Entry → List ℕ

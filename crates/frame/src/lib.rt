@@ -1,7 +1,7 @@
 // Frames: a line of 24 digits, and the entry that it holds.
 ghost use mathlib.Core.Path.{_≡_};
 ghost use lib.ListN.{length};
-ghost use Rattle.frame.specs.Frame.{lineDigits, checked, zeros, openedOf, isZero, inForm, entryOf, readingOf, bodyOf, withSum, lineOf, writeRefusal, written};
+ghost use Rattle.frame.specs.Frame.{lineDigits, checked, zeros, openedOf, closeRefusal, closed, isZero, inForm, entryOf, readingOf, bodyOf, lineOf, writeRefusal, written};
 use units::Dollars;
 use units::refusals;
 
@@ -50,6 +50,20 @@ pub fn open_line(line: &[u8]) -> Opened
         refusal: 0,
         bytes: bytes,
     }
+}
+
+// Fills a lent run of 24 bytes with the line of the first eleven of twelve bytes and their sum; or answers 1 and leaves
+// the run as it was.
+pub fn close_line(bytes: [u8; 12], line: &mut [u8]) -> u8
+    ensures { λ r. ⌜ (r ≡ closeRefusal (length (now (line .entry)))) × (now (line .exit) ≡ closed bytes (now (line .entry))) ⌝ }
+{
+    if line.len() != LINE {
+        return refusals::WRONG_LENGTH;
+    }
+    let mut summed = bytes;
+    summed[11] = number::sum(&bytes[..11]);
+    digit::encode(&summed, line);
+    0
 }
 
 // The entry of a line, or 1, 11, 12 or 13.
@@ -142,17 +156,8 @@ fn put_line(entry: Entry, line: &mut [u8])
     ensures { λ _. ⌜ now (line .exit) ≡ lineOf entry ⌝ }
 {
     let mut bytes = [0u8; 12];
-    put_bytes(entry, &mut bytes);
-    digit::encode(&bytes, line);
-}
-
-// All twelve.
-fn put_bytes(entry: Entry, bytes: &mut [u8])
-    requires { ⌜ length (now bytes) ≡ 12 ⌝ }
-    ensures { λ _. ⌜ now (bytes .exit) ≡ withSum (bodyOf entry) ⌝ }
-{
     put_body(entry, &mut bytes[..11]);
-    bytes[11] = number::sum(&bytes[..11]);
+    close_line(bytes, line);
 }
 
 // The first eleven bytes of an entry.

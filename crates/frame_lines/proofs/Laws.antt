@@ -1,19 +1,26 @@
 -- How long the lines of frames are, and that what is put is a question's text. By the number of the refusal. Assumes nothing.
 use Prim.Native.Nat.{ℕ, _+_, _≤_}
 use mathlib.Core.Path.{_≡_, refl, sym, ap, ap₂}
-use mathlib.Core.Bool.{true, false}
+use mathlib.Core.Bool.{true, false, _&&_}
 use mathlib.Core.List.{List, _++_}
 use native.Mathlib.Omega.{arith}
+use lib.IntN.{ℤ}
 use lib.ListN.{length, length-append, replicate}
 use Rattle.whole.specs.Choice.{orElse}
-use Rattle.whole.proofs.Choice.{by-test, both-passed, kept-any, kept-by}
+use Rattle.whole.specs.Whole.{up}
+use Rattle.whole.proofs.Choice.{by-test, and-both, both-passed, kept-any, kept-by}
+use Rattle.whole.proofs.Signed.{Natural, natural}
+use Rattle.units.specs.Refusals.{badKind}
+use Rattle.units.specs.Limits.{mostSecond, isSecond, mostPattern, isPattern}
 use Rattle.text.specs.Text.{decimalOf, endOfLine}
 use Rattle.text.proofs.Spelling.{length-most}
-use Rattle.frame.specs.Frame.{lineDigits, lineOf}
+use Rattle.frame.specs.Frame.{lineDigits, withSum, closed, lineOf}
 use Rattle.frame.specs.declared.Entry.{Entry}
-use Rattle.frame.proofs.Frames.{length-line, write-right}
+use Rattle.frame.proofs.Digits.{length-digits}
+use Rattle.frame.proofs.Frames.{length-line, close-right, write-right}
+use Rattle.pair_frame.specs.PairFrame.{pairBody, pairLine}
 use Rattle.frames.specs.declared.Framed.{Framed}
-use Rattle.frame_lines.specs.Text.{aloneText, entryText, framedRefusal, linesText, frameText}
+use Rattle.frame_lines.specs.Text.{aloneText, entryText, framedRefusal, linesText, frameText, pairText}
 use Rattle.frame_lines.specs.Inner.{linedOf, oneText, twoText}
 
 -- a line that the writer takes
@@ -56,3 +63,33 @@ frames-long f =
         by-test (f .paired)
         (λ (p : f .paired ≡ true). rw p (omega (arith, length-append (entryText (f .entry)) (entryText (f .second)), entry-long (f .entry), entry-long (f .second))))
         (λ (p : f .paired ≡ false). rw p (omega (arith, entry-long (f .entry))))
+
+-- ---- a logger's line
+
+module _ (second f p : ℕ) where
+  -- it is what the writer leaves
+  pub pair-lined : closed (pairBody second f p) (replicate lineDigits 10) ≡ pairLine second f p
+  pair-lined = sym (close-right (pairBody second f p) (replicate lineDigits 10) refl .1)
+
+  pub pair-line-long : length (pairLine second f p ++ endOfLine) ≡ 25
+  unfolding withSum
+  pair-line-long = omega (arith, length-append (pairLine second f p) endOfLine, length-digits (withSum (pairBody second f p)))
+
+-- numbers that fit their bytes
+pub record Sized (s f p : ℤ) : Type 0 where
+  pub second : Natural mostSecond s
+  pub frequency : Natural mostPattern f
+  pub power : Natural mostPattern p
+
+pub sized : (second f p : ℤ) → isSecond second && (isPattern f && isPattern p) ≡ true → Sized second f p
+sized second f p e =
+    let a = and-both (isSecond second) _ e in
+    let b = and-both (isPattern f) (isPattern p) (a .1) in
+    record { second = natural mostSecond second (a .0); frequency = natural mostPattern f (b .0); power = natural mostPattern p (b .1) }
+
+pub pair-long : (second f p : ℤ) → length (pairText second f p) ≤ 50
+unfolding pairText
+pair-long second f p =
+    by-test (isSecond second && (isPattern f && isPattern p))
+    (λ (t : isSecond second && (isPattern f && isPattern p) ≡ true). rw t (omega (arith, pair-line-long (up second) (up f) (up p))))
+    (λ (t : isSecond second && (isPattern f && isPattern p) ≡ false). rw t (omega (arith, alone-long badKind)))

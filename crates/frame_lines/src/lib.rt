@@ -1,11 +1,14 @@
-// The lines that `desk` prints for a frame, or for two.
+// The lines that `desk` prints for a frame, or for two, and for a logger's.
 ghost use mathlib.Core.Path.{_≡_};
 ghost use mathlib.Core.List.{_++_};
-ghost use Rattle.text.specs.Text.{placeAfter, withText};
-ghost use Rattle.frame_lines.specs.Text.{aloneText, frameText};
+ghost use Rattle.text.specs.Text.{endOfLine, placeAfter, withText};
+ghost use Rattle.pair_frame.specs.PairFrame.{pairLine};
+ghost use Rattle.frame_lines.specs.Text.{aloneText, frameText, pairText};
 ghost use Rattle.frame_lines.specs.Inner.{linedOf, oneText, twoText};
 use frame::Entry;
 use frames::Framed;
+use units::limits;
+use units::refusals;
 
 // A frame's line with its end; where the writer refuses it, its number and line ends.
 struct Lined {
@@ -28,6 +31,30 @@ pub fn put_frames(framed: Framed, out: &mut [u8]) -> usize
         return put_two(k, bytes, lined_of(second), out);
     }
     put_one(k, bytes, out)
+}
+
+// Puts the line of a logger's frame at the start of a run, or 13 alone where a number does not fit its bytes, and
+// answers the place after it; where it does not fit, the run stays as it was, and the answer is 0.
+pub fn put_pair(second: i64, frequency: i64, power: i64, out: &mut [u8]) -> usize
+    ensures place { λ r. ⌜ r ≡ placeAfter (now (out .entry)) 0 (pairText second frequency power) ⌝ }
+    ensures text { λ r. ⌜ now (out .exit) ≡ withText (now (out .entry)) 0 (pairText second frequency power) ⌝ }
+{
+    let patterns = whole::within(frequency, 0, limits::PATTERN)
+        & whole::within(power, 0, limits::PATTERN);
+    if !(whole::within(second, 0, limits::SECOND) & patterns) {
+        return put_alone(refusals::BAD_KIND, out);
+    }
+    put_bits(second as u16, frequency as u32, power as u32, out)
+}
+
+// The line of a second and a pair's bits.
+fn put_bits(second: u16, frequency: u32, power: u32, out: &mut [u8]) -> usize
+    ensures place { λ r. ⌜ r ≡ placeAfter (now (out .entry)) 0 (pairLine second frequency power ++ endOfLine) ⌝ }
+    ensures text { λ r. ⌜ now (out .exit) ≡ withText (now (out .entry)) 0 (pairLine second frequency power ++ endOfLine) ⌝ }
+{
+    let mut bytes = [b'\n'; 25];
+    pair_frame::write_pair(second, frequency, power, &mut bytes[..24]);
+    text::put(out, 0, &bytes)
 }
 
 // An entry's line with its end.

@@ -9,26 +9,14 @@ use mathlib.Core.List.{List, [], _∷_, _++_, append-assoc, append-nil}
 use lib.Dec.{eqb, ltb}
 use lib.ListN.{length, getD, take, drop, set, length-append, length-set}
 use lib.Seq.{take-all, take-append-le, take-suc-set, length-take-le}
-use borrow.Author.Tests.{eq-eqb, ne-eqb, lt-ltb, le-ltb, ltb-true, ltb-false}
+use borrow.Author.Tests.{ne-eqb, lt-ltb, le-ltb, ltb-true, ltb-false}
 use Rattle.whole.specs.Choice.{pick}
 use Rattle.whole.proofs.Choice.{by-test}
 use Rattle.whole.proofs.Runs.{rest, no-rest}
 use Rattle.frame.specs.Frame.{readRefusal, readingOf}
-use Rattle.intake.specs.Lines.{lineEnd}
-use Rattle.intake.specs.Inner.{beforeEnd, heldIn, emptyLine, pushed, keptIn, linesIn, leftIn}
+use Rattle.lines.specs.Lines.{lineEnd, beforeEnd}
+use Rattle.intake.specs.Inner.{heldIn, emptyLine, pushed, keptIn, linesIn, leftIn}
 use Rattle.intake.specs.declared.Line.{Line}
-
--- ---- where a line ends
-
-module _ (chunk : List ℕ) (i : ℕ) where
-  pub before-next : i < length chunk → (getD chunk i 0 ≡ lineEnd → ⊥) → i + length (beforeEnd (drop i chunk)) ≡ i + 1 + length (beforeEnd (drop (i + 1) chunk))
-  before-next h e = rw (rest chunk i 0 h, ne-eqb (getD chunk i 0) lineEnd e) (omega arith)
-
-  pub before-ends : i < length chunk → getD chunk i 0 ≡ lineEnd → i ≡ i + length (beforeEnd (drop i chunk))
-  before-ends h e = rw (rest chunk i 0 h, eq-eqb (getD chunk i 0) lineEnd e) (omega arith)
-
-  pub before-done : length chunk ≤ i → i ≡ i + length (beforeEnd (drop i chunk))
-  before-done h = rw (no-rest chunk i h) (omega arith)
 
 -- ---- bytes kept one by one
 
@@ -74,13 +62,6 @@ lines-none line (x ∷ xs) h = let n = no-end x xs h in rw (n .0) (lines-none (p
 pub left-none : (line : Line) (xs : List ℕ) → length xs ≤ length (beforeEnd xs) → leftIn line xs ≡ keptIn line xs
 left-none line [] h = refl
 left-none line (x ∷ xs) h = let n = no-end x xs h in rw (n .0) (left-none (pushed line x) xs (n .1))
-
-pub before-take : (xs : List ℕ) → take (length (beforeEnd xs)) xs ≡ beforeEnd xs
-before-take [] = refl
-before-take (x ∷ xs) =
-    by-test (eqb x lineEnd)
-    (λ (t : eqb x lineEnd ≡ true). rw t)
-    (λ (t : eqb x lineEnd ≡ false). rw t (ap (λ (r : List ℕ). x ∷ r) (before-take xs)))
 
 -- ---- a line in its array, and the bytes that it stands for
 

@@ -11,13 +11,15 @@ use Rattle.whole.proofs.Choice.{clash}
 use lib.ListN.{length, take, drop, length-append, length-drop}
 use lib.Seq.{drop-drop}
 use borrow.Rule.Slice.PartAt.{part-to-end}
-use Rattle.intake.specs.Inner.{beforeEnd, heldIn, emptyLine, keptIn, linesIn, leftIn, lastIn}
+use Rattle.lines.specs.Lines.{beforeEnd}
+use Rattle.lines.proofs.Lines.{before-take}
+use Rattle.intake.specs.Inner.{heldIn, emptyLine, keptIn, linesIn, leftIn, lastIn}
 use Rattle.text.specs.Text.{put}
 use Rattle.book.specs.Book.{Book}
 use Rattle.intake.specs.Answers.{answerTo, bookAfter, answersTo, bookAfterAll}
 use Rattle.intake.specs.declared.Line.{Line}
 use Rattle.text.proofs.Places.{put-put, put-nothing}
-use Rattle.intake.proofs.Cutting.{lines-cut, left-cut, lines-none, left-none, before-take}
+use Rattle.intake.proofs.Cutting.{lines-cut, left-cut, lines-none, left-none}
 
 -- of lines `all` from a book and a place in out, `ls` are left at the book, place and run of now
 pub record Left (first : Book) (all : List (List ℕ)) (run : List ℕ) (start : ℕ) (book : Book) (ls : List (List ℕ)) (out : List ℕ) (at : ℕ) : Type 0 where

@@ -9,7 +9,7 @@ use Rattle.history.specs.Board.{fresh, totalOn}
 use Rattle.head.specs.Rules.{monthRules}
 use Rattle.frame.specs.Frame.{readingOf}
 use Rattle.book.specs.Book.{Book, readingRefusal, bookIn}
-use Rattle.intake.specs.Lines.{linesOf}
+use Rattle.lines.specs.Lines.{linesOf}
 use Rattle.intake.specs.Text.{verdictText, totalText}
 
 -- no line answered, no month opened

@@ -14,7 +14,7 @@ use Rattle.head.specs.Inner.{freshHead}
 use Rattle.text.specs.Text.{put}
 use Rattle.book.specs.Book.{Book}
 use Rattle.book.specs.Inner.{bookOf, coverOf}
-use Rattle.intake.specs.Lines.{lineEnd}
+use Rattle.lines.specs.Lines.{lineEnd}
 use Rattle.intake.specs.Text.{totalText}
 use Rattle.intake.specs.Answers.{answersTo, bookAfterAll, bookTotal}
 use Rattle.intake.specs.declared.Line.{Line}
@@ -49,11 +49,6 @@ leftIn line (b ∷ bs) = pick (eqb b lineEnd) (leftIn emptyLine bs) (leftIn (pus
 -- the line at the input's end, if it has a byte
 unfoldable pub lastIn : Line → List (List ℕ)
 lastIn line = pick (eqb (line .len) 0) [] (heldIn line ∷ [])
-
--- the bytes before the first line end, or all of them
-abbrev pub beforeEnd : List ℕ → List ℕ
-beforeEnd [] = []
-beforeEnd (b ∷ bs) = pick (eqb b lineEnd) [] (b ∷ beforeEnd bs)
 
 -- ---- the first state
 

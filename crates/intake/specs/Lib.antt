@@ -1,5 +1,4 @@
 -- What the program does with its input.
-pub mod Lines
 pub mod Text
 pub mod Answers
 pub mod Inner

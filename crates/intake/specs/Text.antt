@@ -3,7 +3,7 @@ use Prim.Native.Nat.{ℕ}
 use mathlib.Core.List.{List, [], _∷_, _++_}
 use lib.IntN.{ℤ}
 use Rattle.text.specs.Text.{decimalOf, signedText}
-use Rattle.intake.specs.Lines.{lineEnd}
+use Rattle.lines.specs.Lines.{lineEnd}
 
 -- "the line number, a space, and 0 or the refusal"
 unfoldable pub verdictText : ℕ → ℕ → List ℕ

@@ -1,8 +1,7 @@
 // Lines of an input that comes in chunks.
-ghost use Prim.Native.Nat.{_+_, _≤_, _<_, min};
+ghost use Prim.Native.Nat.{min};
 ghost use mathlib.Core.Path.{_≡_};
-ghost use lib.ListN.{length, drop};
-ghost use Rattle.intake.specs.Inner.{beforeEnd, emptyLine, pushed, keptIn};
+ghost use Rattle.intake.specs.Inner.{emptyLine, pushed, keptIn};
 use crate::Line;
 
 // A line with no byte yet.
@@ -26,21 +25,6 @@ pub(crate) fn keep(line: Line, more: &[u8]) -> Line
         i += 1;
     }
     kept
-}
-
-// The place of the first line end from a place on, or the chunk's length.
-pub(crate) fn line_end(chunk: &[u8], from: usize) -> usize
-    requires { ⌜ from ≤ length (now chunk) ⌝ }
-    ensures { λ r. ⌜ r ≡ from + length (beforeEnd (drop from (now (chunk .entry)))) ⌝ }
-{
-    let mut i = from;
-    while i < chunk.len() {
-        if chunk[i] == b'\n' {
-            return i;
-        }
-        i += 1;
-    }
-    i
 }
 
 // How many bytes a line of that length has kept.

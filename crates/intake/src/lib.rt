@@ -159,14 +159,14 @@ fn answer_all(
     let mut line = state.line;
     let mut from = 0;
     let mut at = 0;
-    let mut end = cut::line_end(chunk, 0);
+    let mut end = lines::line_end(chunk, 0);
     while end < chunk.len() {
         let work = answer(cover, line, &chunk[from..end], marks, amounts, out, at);
         cover = work.cover;
         at = work.at;
         line = cut::empty();
         from = end + 1;
-        end = cut::line_end(chunk, from);
+        end = lines::line_end(chunk, from);
     }
     let left = cut::keep(line, &chunk[from..]);
     Fed {

@@ -6,6 +6,7 @@ use lib.Dec.{eqb}
 use lib.IntN.{ℤ}
 use lib.ListN.{drop}
 use Rattle.whole.specs.Choice.{pick, orElse, kept}
+use Rattle.numbers.specs.Numbers.{number}
 use Rattle.numbers.specs.Shapes.{cutOf}
 use Rattle.words.specs.Questions.{questionOf}
 use Rattle.words.specs.Replies.{Reply, reply}
@@ -22,7 +23,7 @@ use Rattle.series.specs.Series.{seriesReply}
 use Rattle.question.specs.Parts.{headOf, entriesIn, givenIn}
 use Rattle.fault_lines.specs.Text.{faultText}
 use Rattle.question.specs.Lines.{lineText}
-use Rattle.frame_lines.specs.Text.{frameText}
+use Rattle.frame_lines.specs.Text.{frameText, pairText}
 use Rattle.frames.specs.Frames.{frameAnswer}
 use Rattle.frames.specs.declared.Framed.{Framed}
 
@@ -40,12 +41,17 @@ seriesPrints asks n places = seriesReply asks (headOf n) (givenIn (headOf n) n p
 abbrev pub framePrints : Framing → List ℤ → Places → Framed
 framePrints asks n places = frameAnswer asks (headOf n) (givenIn (headOf (drop 2 n)) n places)
 
+-- a logger's frame
+abbrev pub pairPrints : List ℤ → List ℕ
+pairPrints n = pairText (number (headOf n) 0) (number (headOf n) 1) (number (headOf n) 2)
+
 -- the answer, by the numbers and the places of their parts
 abbrev pub answerText : Question → List ℤ → Places → List ℕ
 answerText (asks.Rule r) n places = lineText (rulePrints r n places)
 answerText (asks.Hour h) n places = lineText (hourPrints h n places)
 answerText (asks.Series r) n places = lineText (seriesPrints r n places)
 answerText (asks.Frame f) n places = frameText (framePrints f n places)
+answerText asks.PairFrame n places = pairPrints n
 answerText asks.Unknown n places = lineText (reply 0 [])
 
 -- the fault: that the word is none of these; the first one that was found while reading; that of the numbers' count

@@ -7,7 +7,7 @@ ghost use Rattle.words.specs.Inner.{unboxed};
 ghost use Rattle.frame_lines.specs.Text.{frameText};
 ghost use Rattle.question.specs.Lines.{lineText};
 ghost use Rattle.question.specs.Inner.{room, answered, printed};
-ghost use Rattle.question.specs.Questions.{rulePrints, hourPrints, seriesPrints, framePrints, answerText, toldLine, questionText, replyText};
+ghost use Rattle.question.specs.Questions.{rulePrints, hourPrints, seriesPrints, framePrints, pairPrints, answerText, toldLine, questionText, replyText};
 use numbers::Places;
 use units::limits;
 use units::refusals;
@@ -106,6 +106,7 @@ fn put_answer(question: Question, numbers: &[i64], places: Places, out: &mut [u8
         Question::Hour(hour) => put_hour(hour, numbers, places, out),
         Question::Series(asks) => put_series(asks, numbers, places, out),
         Question::Frame(asks) => put_framed(asks, numbers, places, out),
+        Question::PairFrame => put_pair(numbers, out),
         Question::Unknown => {
             let none = [0i64; 1];
             lines::put_line(0, &none[..0], out)
@@ -202,4 +203,14 @@ fn put_framed(asks: Framing, numbers: &[i64], places: Places, out: &mut [u8]) ->
         parts::rest(numbers, places.tail),
     );
     frame_lines::put_frames(framed, out)
+}
+
+fn put_pair(numbers: &[i64], out: &mut [u8]) -> usize
+    requires { ⌜ room ≤ length (now out) ⌝ }
+    ensures place { λ r. ⌜ r ≡ length (pairPrints (now (numbers .entry))) ⌝ }
+    ensures text { λ r. ⌜ now (out .exit) ≡ put (now (out .entry)) 0 (pairPrints (now (numbers .entry))) ⌝ }
+    ensures short { λ r. ⌜ r ≤ room ⌝ }
+{
+    let head = parts::head_of(numbers);
+    frame_lines::put_pair(head[0], head[1], head[2], out)
 }

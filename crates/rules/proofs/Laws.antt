@@ -2,7 +2,7 @@
 -- Assumes nothing.
 use Prim.Native.Nat.{ℕ, _≤_, _<_, _%_}
 use mathlib.Core.Path.{_≡_, refl, sym, _∙_}
-use mathlib.Core.Bool.{Bool, true, false, and-false}
+use mathlib.Core.Bool.{Bool, true, false, _&&_, and-false}
 use mathlib.Core.List.{List, [], _∷_}
 use native.Mathlib.Omega.{arith}
 use lib.Dec.{eqb}
@@ -11,18 +11,18 @@ use lib.ListN.{length}
 use borrow.Author.Tests.{ne-eqb}
 use Rattle.whole.specs.Choice.{inOrder}
 use Rattle.whole.proofs.Choice.{by-test}
-use Rattle.units.specs.Limits.{earlierScores, secondsOfHour}
+use Rattle.units.specs.Limits.{isPattern, earlierScores, secondsOfHour}
 use Rattle.units.specs.Refusals.{wrongLength, badBands}
 use Rattle.rate.specs.Rolling.{rateLengthsFit, scoresRefusal, noRate, hourlyRate}
 use Rattle.rate.proofs.Rates.{more-unfit}
 use Rattle.bands.specs.Bands.{bandsFit, factorRefusal, withFactor, factorAnswer}
 use Rattle.bands.proofs.Laws.{bands-fit}
-use Rattle.numbers.specs.Numbers.{scoresIn, column}
+use Rattle.numbers.specs.Numbers.{number, scoresIn, column}
 use Rattle.numbers.specs.Inner.{firstFour, taken}
 use Rattle.numbers.proofs.Bytes.{four-same}
 use Rattle.words.specs.declared.Rule.{Rule}
-use Rattle.words.specs.declared.Rule.the-variants.{Kilowatts, Curve, Score, Rate, Bands, Factor, Fee, Quality, Energy, Loss}
-use Rattle.rules.specs.Rules.{pairs, arePairs, factorIn, kilowattsReply, curveReply, scoreReply, rateReply, bandsReply, factorReply, feeReply, qualityReply, energyReply, lossReply, ruleReply}
+use Rattle.words.specs.declared.Rule.the-variants.{Kilowatts, Curve, Score, Rate, Bands, Factor, Fee, Quality, Energy, Loss, Pair}
+use Rattle.rules.specs.Rules.{pairs, arePairs, factorIn, kilowattsReply, curveReply, scoreReply, rateReply, bandsReply, factorReply, feeReply, qualityReply, energyReply, lossReply, pairReply, ruleReply}
 
 -- more than 16 records are refused, whatever they say
 pub too-many : (thresholds factors : List ℤ) (rate : ℕ) → 16 < length thresholds → factorAnswer thresholds factors rate ≡ record { refusal = 5; factor = pos 0 }
@@ -63,7 +63,7 @@ no-pairs n h = ne-eqb (length n % 2) 0 h
 
 -- an answer has at most twelve fields
 pub rule-few : (rule : Rule) (n : List ℤ) (counted : Bool) (earlier t : List ℤ) → length (ruleReply rule n counted earlier t .fields) ≤ 12
-unfolding kilowattsReply curveReply scoreReply rateReply bandsReply factorReply feeReply qualityReply energyReply lossReply
+unfolding kilowattsReply curveReply scoreReply rateReply bandsReply factorReply feeReply qualityReply energyReply lossReply pairReply
 rule-few Kilowatts n counted earlier t = omega arith
 rule-few Curve n counted earlier t = omega arith
 rule-few Score n counted earlier t = omega arith
@@ -74,3 +74,7 @@ rule-few Fee n counted earlier t = omega arith
 rule-few Quality n counted earlier t = omega arith
 rule-few Energy n counted earlier t = omega arith
 rule-few Loss n counted earlier t = omega arith
+rule-few Pair n counted earlier t =
+    by-test (isPattern (number n 0) && isPattern (number n 1))
+    (λ (e : isPattern (number n 0) && isPattern (number n 1) ≡ true). rw e (omega arith))
+    (λ (e : isPattern (number n 0) && isPattern (number n 1) ≡ false). rw e (omega arith))

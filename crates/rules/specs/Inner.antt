@@ -5,7 +5,7 @@ use lib.IntN.{ℤ, pos}
 use lib.ListN.{replicate}
 use Rattle.words.specs.declared.Few.{Few}
 use Rattle.words.specs.declared.Rule.{Rule}
-use Rattle.words.specs.declared.Rule.the-variants.{Kilowatts, Curve, Score, Rate, Bands, Factor, Fee, Quality, Energy, Loss}
+use Rattle.words.specs.declared.Rule.the-variants.{Kilowatts, Curve, Score, Rate, Bands, Factor, Fee, Quality, Energy, Loss, Pair}
 
 -- how many fields its answer has
 abbrev pub fieldCount : Rule → ℕ
@@ -19,6 +19,7 @@ fieldCount Fee = 1
 fieldCount Quality = 1
 fieldCount Energy = 1
 fieldCount Loss = 3
+fieldCount Pair = 2
 
 -- at most three of them as the code holds them
 abbrev pub few : ℕ → ℕ → ℤ → ℤ → ℤ → Few

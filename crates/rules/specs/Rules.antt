@@ -1,12 +1,14 @@
 -- The questions about one rule: each is the answer of the library that has it. Their numbers are given as single ones, in order.
 use Prim.Native.Nat.{ℕ, _/_, _%_}
-use mathlib.Core.Bool.{Bool}
+use mathlib.Core.Bool.{Bool, _&&_}
 use mathlib.Core.List.{List, [], _∷_}
 use lib.Dec.{eqb}
 use lib.IntN.{ℤ, pos}
 use lib.ListN.{length, take, drop}
 use Rattle.whole.specs.Choice.{pick, inOrder}
-use Rattle.units.specs.Refusals.{wrongLength, badBands}
+use Rattle.whole.specs.Whole.{up}
+use Rattle.units.specs.Refusals.{wrongLength, badBands, notFinite}
+use Rattle.units.specs.Limits.{isPattern}
 use Rattle.units.specs.Units.{kilowatts, megawatts, millihertz, dollars, inKilowatts}
 use Rattle.curve.specs.Curve.{curveAt}
 use Rattle.score.specs.Score.{secondScore}
@@ -17,10 +19,11 @@ use Rattle.bands.specs.declared.Factored.{Factored}
 use Rattle.fees.specs.Fees.{feeAnswer, qualityAnswer, energyAnswer}
 use Rattle.fees.specs.declared.Charged.{Charged}
 use Rattle.loss.specs.Loss.{lossAnswer}
+use Rattle.pair.specs.Pair.{roundedBits}
 use Rattle.numbers.specs.Numbers.{number, byteOf, scoresIn, column}
 use Rattle.words.specs.Replies.{Reply, reply}
 use Rattle.words.specs.declared.Rule.{Rule}
-use Rattle.words.specs.declared.Rule.the-variants.{Kilowatts, Curve, Score, Rate, Bands, Factor, Fee, Quality, Energy, Loss}
+use Rattle.words.specs.declared.Rule.the-variants.{Kilowatts, Curve, Score, Rate, Bands, Factor, Fee, Quality, Energy, Loss, Pair}
 
 -- MEGAWATTS: refusal, kilowatts
 unfoldable pub kilowattsReply : List ℤ → Reply
@@ -85,6 +88,14 @@ lossReply n =
     let a = lossAnswer (number n 0) (number n 1) (number n 2) (number n 3) in
     reply (a .refusal) (a .basic .0 ∷ a .excess .0 ∷ a .total .0 ∷ [])
 
+-- FREQUENCY-BITS POWER-BITS: refusal, millihertz, kilowatts (document 02, #105). A number that is no pattern of 32 bits is no single: 17
+abbrev pub pairBitsReply : ℕ → ℕ → Reply
+pairBitsReply f p = let a = roundedBits f p in reply (a .refusal) (a .frequency .0 ∷ a .power .0 ∷ [])
+
+unfoldable pub pairReply : List ℤ → Reply
+pairReply n =
+    pick (isPattern (number n 0) && isPattern (number n 1)) (pairBitsReply (up (number n 0)) (up (number n 1))) (reply notFinite (pos 0 ∷ pos 0 ∷ []))
+
 -- the answer to a rule's question, by its single numbers, by its earlier scores and whether they are counted, and by the numbers after them
 abbrev pub ruleReply : Rule → List ℤ → Bool → List ℤ → List ℤ → Reply
 ruleReply Kilowatts n counted earlier t = kilowattsReply n
@@ -97,3 +108,4 @@ ruleReply Fee n counted earlier t = feeReply n
 ruleReply Quality n counted earlier t = qualityReply n
 ruleReply Energy n counted earlier t = energyReply n t
 ruleReply Loss n counted earlier t = lossReply n
+ruleReply Pair n counted earlier t = pairReply n

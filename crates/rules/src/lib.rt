@@ -10,9 +10,10 @@ ghost use Rattle.words.specs.Inner.{boxed};
 ghost use Rattle.numbers.specs.Numbers.{column};
 ghost use Rattle.rules.specs.Rules.{factorIn, kilowattsReply, curveReply, scoreReply, rateReply, bandsReply};
 ghost use Rattle.rules.specs.Inner.{few};
-ghost use Rattle.rules.specs.Rules.{factorReply, chargeReply, feeReply, qualityReply, energyReply, lossReply, ruleReply};
+ghost use Rattle.rules.specs.Rules.{factorReply, chargeReply, feeReply, qualityReply, energyReply, lossReply, pairBitsReply, pairReply, ruleReply};
 use bands::Factored;
 use fees::Charged;
+use pair::Logged;
 use units::Dollars;
 use units::Kilowatts;
 use units::Megawatts;
@@ -38,6 +39,7 @@ pub fn answer(rule: Rule, head: [i64; 12], counted: bool, earlier: &[i64], tail:
         Rule::Quality => quality(head),
         Rule::Energy => energy(head, tail),
         Rule::Loss => loss(head),
+        Rule::Pair => pair(head),
     }
 }
 
@@ -189,4 +191,30 @@ fn loss(head: [i64; 12]) -> Few
     let excess = loss.excess;
     let total = loss.total;
     few(loss.refusal, 3, basic.0, excess.0, total.0)
+}
+
+// The bits of a frequency and of a power. A number that is no pattern of 32 bits is no single.
+fn pair(head: [i64; 12]) -> Few
+    ensures { λ r. ⌜ r ≡ boxed (pairReply head) ⌝ }
+{
+    let frequency = head[0];
+    let power = head[1];
+    let known = whole::within(frequency, 0, limits::PATTERN);
+    if !(known & whole::within(power, 0, limits::PATTERN)) {
+        return few(refusals::NOT_FINITE, 2, 0, 0, 0);
+    }
+    converted(frequency as u32, power as u32)
+}
+
+fn converted(frequency: u32, power: u32) -> Few
+    ensures { λ r. ⌜ r ≡ boxed (pairBitsReply frequency power) ⌝ }
+{
+    let got = pair::from_bits(frequency, power);
+    let Logged::Finite(pair) = got else {
+        return few(refusals::NOT_FINITE, 2, 0, 0, 0);
+    };
+    let rounded = pair::convert(pair);
+    let millihertz = rounded.frequency;
+    let kilowatts = rounded.power;
+    few(rounded.refusal, 2, millihertz.0, kilowatts.0, 0)
 }

@@ -2,7 +2,7 @@
 mod Samples
 pub mod Cutting
 mod Places
-mod Growing
+pub mod Growing
 pub mod Written
 pub mod Separators
 pub mod Replying

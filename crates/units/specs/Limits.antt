@@ -55,6 +55,22 @@ mostAward = 100
 abbrev pub isAward : ℤ → Bool
 isAward = inRange (minus mostAward) (pos mostAward)
 
+-- ---- a logger's frame, by its fields (document 02, #105)
+
+-- the 32 bits of a single
+abbrev pub mostPattern : ℕ
+mostPattern = 4294967295
+
+abbrev pub isPattern : ℤ → Bool
+isPattern = inRange (pos 0) (pos mostPattern)
+
+-- "a two-byte second number"
+abbrev pub mostSecond : ℕ
+mostSecond = 65535
+
+abbrev pub isSecond : ℤ → Bool
+isSecond = inRange (pos 0) (pos mostSecond)
+
 -- ---- scores and rates, bands
 
 -- "a score or rate handed in outside 0 to 100"; a band's threshold is a rate

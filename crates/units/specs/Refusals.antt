@@ -66,6 +66,14 @@ badEnergy = 15
 abbrev pub badAmount : ℕ
 badAmount = 16
 
+-- a single that is NaN or infinite (document 02, #105)
+abbrev pub notFinite : ℕ
+notFinite = 17
+
+-- a second out of order (document 02, #105)
+abbrev pub wrongSecond : ℕ
+wrongSecond = 18
+
 -- a handed-in ledger that no run of calls from a fresh month hands back
 abbrev pub notReachable : ℕ
 notReachable = 22

@@ -11,6 +11,10 @@ pub const TRANSFER: i64 = 100_000;
 
 pub const AWARD: i64 = 100;
 
+pub const PATTERN: i64 = 4_294_967_295;
+
+pub const SECOND: i64 = 65_535;
+
 pub const SCORE: u8 = 100;
 
 pub const EARLIER: usize = 3;

@@ -31,4 +31,8 @@ pub const BAD_ENERGY: u8 = 15;
 
 pub const BAD_AMOUNT: u8 = 16;
 
+pub const NOT_FINITE: u8 = 17;
+
+pub const WRONG_SECOND: u8 = 18;
+
 pub const NOT_REACHABLE: u8 = 22;

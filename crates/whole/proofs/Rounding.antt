@@ -3,7 +3,7 @@
 use mathlib.Core.Path.{_≡_, refl, sym, ap, _∙_}
 use Prim.Native.Nat.{ℕ, zero, suc, _+_, _*_, _-_, _/_, _%_, _≤_, _<_}
 use native.Mathlib.Omega.{arith}
-use native.Mathlib.Nat.{zero-mul, div-zero, div-lt-iff-lt-mul, div-add-mod', mod-lt, div-eq-of-lt-le, mul-le-mul-left, div-mul-le-self, lt-div-mul-add, lt-of-mul-lt-mul-left, mul-le-mul-right, le-of-suc-le-suc}
+use native.Mathlib.Nat.{zero-mul, div-zero, mul-div-mul-right, div-eq-of-lt, le-div-iff-mul-le, div-lt-iff-lt-mul, div-add-mod', mod-lt, div-eq-of-lt-le, mul-le-mul-left, div-mul-le-self, lt-div-mul-add, lt-of-mul-lt-mul-left, mul-le-mul-right, le-of-suc-le-suc}
 use mir.Syntax.{Width}
 use mir.Val.{SFits}
 use lib.IntN.{ℤ, pos, negsuc, natAbs, _-ℤ_, _*ℤ_}
@@ -30,12 +30,12 @@ size-minus : (m : ℕ) → natAbs (minus m) ≡ m
 size-minus zero = refl
 size-minus (suc m) = refl
 
-size-sign : (z : ℤ) (m : ℕ) → natAbs (withSign z m) ≡ m
+pub size-sign : (z : ℤ) (m : ℕ) → natAbs (withSign z m) ≡ m
 unfolding withSign
 size-sign (pos n) m = refl
 size-sign (negsuc n) m = size-minus m
 
-minus-times : (q d : ℕ) → minus q *ℤ pos d ≡ minus (q * d)
+pub minus-times : (q d : ℕ) → minus q *ℤ pos d ≡ minus (q * d)
 minus-times zero d = ap pos (zero-mul d) ∙ sym (ap minus (zero-mul d))
 minus-times (suc q) d = refl
 
@@ -189,3 +189,39 @@ away-within n d k h b =
     let below : q * d ≤ m + (d - 1) = div-mul-le-self (m + (d - 1)) d in
     let less : d * q < d * suc k = omega arith in
     sign-within n q (le-of-suc-le-suc (lt-of-mul-lt-mul-left d less))
+
+-- ---- a fraction in other terms, and how small or large it rounds
+
+half-scale : (m d c : ℕ) → 0 < c → halfUp (m * c) (d * c) ≡ halfUp m d
+unfolding halfUp
+half-scale m d c h =
+    let n : 2 * (m * c) + d * c ≡ (2 * m + d) * c = omega arith in
+    let k : 2 * (d * c) ≡ 2 * d * c = omega arith in
+    rw (n, k) (mul-div-mul-right (2 * m + d) (2 * d) h)
+
+pub nearest-minus : (n d : ℕ) → nearest (minus n) d ≡ minus (halfUp n d)
+unfolding nearest withSign
+nearest-minus zero d = let e : halfUp 0 d ≡ 0 = omega (arith, half-le 0 d) in rw e
+nearest-minus (suc n) d = refl
+
+-- a fraction whose two parts are c times as large rounds to the same
+pub nearest-scale : (z : ℤ) (d c : ℕ) → 0 < c → nearest (z *ℤ pos c) (d * c) ≡ nearest z d
+unfolding nearest withSign
+nearest-scale (pos m) d c h = ap pos (half-scale m d c h)
+nearest-scale (negsuc m) d c h = nearest-minus (suc m * c) (d * c) ∙ ap minus (half-scale (suc m) d c h)
+
+-- below a half it is 0
+pub nearest-none : (z : ℤ) (d : ℕ) → 2 * natAbs z < d → nearest z d ≡ pos 0
+unfolding nearest withSign halfUp
+nearest-none z d h = let e : (2 * natAbs z + d) / (2 * d) ≡ 0 = div-eq-of-lt (omega arith) in rw e (by z)
+  where
+    by : (z : ℤ) → withSign z 0 ≡ pos 0
+    by (pos n) = refl
+    by (negsuc n) = refl
+
+-- and no smaller than a whole number that is not larger
+pub nearest-more : (z : ℤ) (d q : ℕ) → 0 < d → q * d ≤ natAbs z → q ≤ natAbs (nearest z d)
+unfolding nearest halfUp
+nearest-more z d q h k =
+    rw (size-sign z ((2 * natAbs z + d) / (2 * d)))
+    (le-div-iff-mul-le {k = 2 * d} (omega arith) .1 (omega arith))

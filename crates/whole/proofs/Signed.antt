@@ -150,6 +150,16 @@ inside {low} {high} {z} e =
     both true false e f g = absurd (subst T (sym e) tt)
     both false b e f g = absurd (subst T (sym e) tt)
 
+-- a number from 0 to m is its own size
+pub record Natural (m : ℕ) (z : ℤ) : Type 0 where
+  pub sign : T (nonNeg z)
+  pub size : natAbs z ≡ up z
+  pub most : natAbs z ≤ m
+
+pub natural : (m : ℕ) (z : ℤ) → inRange (pos 0) (pos m) z ≡ true → Natural m z
+natural m (pos n) e = let b = inside e in record { sign = tt; size = refl; most = omega arith }
+natural m (negsuc n) e = let b = inside e in absurd (omega arith)
+
 -- ---- bits: a local holds the bits of its number, and z fits where the number that `SFits` bounds does
 
 pub bits : {w : Width} {z : ℤ} → SFits w z → up (toZ w (ofZ w z)) + down z ≡ up z + down (toZ w (ofZ w z))

@@ -8,7 +8,7 @@ use Rattle.units.specs.Limits.{secondsOfHour}
 use Rattle.words.specs.Faults.{notQuestion}
 use Rattle.words.specs.Words.{wordOf}
 use Rattle.words.specs.declared.Question.{Question}
-use Rattle.words.specs.declared.Rule.the-variants.{Kilowatts, Curve, Score, Rate, Bands, Factor, Fee, Quality, Energy, Loss}
+use Rattle.words.specs.declared.Rule.the-variants.{Kilowatts, Curve, Score, Rate, Bands, Factor, Fee, Quality, Energy, Loss, Pair}
 use Rattle.words.specs.declared.Hour.the-variants.{Dreg, Edreg, Sreg}
 use Rattle.words.specs.declared.Series.the-variants.{Ramp, DregScores, EdregScores, SregScores}
 use Rattle.words.specs.declared.Framing.the-variants.{DregFrame, EdregFrame, SregFrame, Frame, LossFrames}
@@ -68,6 +68,7 @@ table =
     ∷ entry "quality" (asks.Rule Quality) (singles 3)
     ∷ entry "energy" (asks.Rule Energy) (secondsShape 6)
     ∷ entry "loss" (asks.Rule Loss) (singles 4)
+    ∷ entry "pair" (asks.Rule Pair) (singles 2)
     ∷ entry "dreg" (asks.Hour Dreg) (hourShape 3)
     ∷ entry "edreg" (asks.Hour Edreg) (hourShape 10)
     ∷ entry "sreg" (asks.Hour Sreg) (stateShape 3)
@@ -79,6 +80,7 @@ table =
     ∷ entry "sreg_frame" (asks.Frame SregFrame) (stateShape 5)
     ∷ entry "frame" (asks.Frame Frame) (singles 4)
     ∷ entry "loss_frames" (asks.Frame LossFrames) (singles 4)
+    ∷ entry "pair_frame" asks.PairFrame (singles 3)
     ∷ []
 
 -- any other word

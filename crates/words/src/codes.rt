@@ -21,6 +21,8 @@ pub(crate) const ENERGY: u64 = 182_634_745;
 
 pub(crate) const LOSS: u64 = 409_203;
 
+pub(crate) const PAIR: u64 = 525_618;
+
 pub(crate) const DREG: u64 = 149_671;
 
 pub(crate) const EDREG: u64 = 5_392_551;
@@ -42,3 +44,5 @@ pub(crate) const SREG_FRAME: u64 = 688_474_506_724_773;
 pub(crate) const FRAME: u64 = 6_882_725;
 
 pub(crate) const LOSS_FRAMES: u64 = 14_060_137_230_677_171;
+
+pub(crate) const PAIR_FRAME: u64 = 564_378_942_899_621;

@@ -6,12 +6,13 @@ use units::limits;
 mod codes;
 pub mod faults;
 
-// What is asked: a rule or an hour, answered by a few fields; a run of them; a frame or two.
+// What is asked: a rule or an hour, answered by a few fields; a run of them; a frame or two; a logger's frame.
 pub enum Question {
     Rule(Rule),
     Hour(Hour),
     Series(Series),
     Frame(Framing),
+    PairFrame,
     Unknown,
 }
 
@@ -26,6 +27,7 @@ pub enum Rule {
     Quality,
     Energy,
     Loss,
+    Pair,
 }
 
 pub enum Hour {
@@ -88,6 +90,7 @@ pub fn question_of(code: u64) -> Row
         codes::QUALITY => singles(Question::Rule(Rule::Quality), 3),
         codes::ENERGY => seconds(Question::Rule(Rule::Energy), 6),
         codes::LOSS => singles(Question::Rule(Rule::Loss), 4),
+        codes::PAIR => singles(Question::Rule(Rule::Pair), 2),
         codes::DREG => hourly(Question::Hour(Hour::Dreg), 3),
         codes::EDREG => hourly(Question::Hour(Hour::Edreg), 10),
         codes::SREG => stated(Question::Hour(Hour::Sreg), 3),
@@ -99,6 +102,7 @@ pub fn question_of(code: u64) -> Row
         codes::SREG_FRAME => stated(Question::Frame(Framing::SregFrame), 5),
         codes::FRAME => singles(Question::Frame(Framing::Frame), 4),
         codes::LOSS_FRAMES => singles(Question::Frame(Framing::LossFrames), 4),
+        codes::PAIR_FRAME => singles(Question::PairFrame, 3),
         _ => Row {
             fault: faults::NOT_QUESTION,
             question: Question::Unknown,

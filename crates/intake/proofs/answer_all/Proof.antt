@@ -7,8 +7,9 @@ use lib.ListN.{length, take, drop}
 use borrow.Author.Needs.{needs}
 use mir.Syntax.{w64}
 use mir.Val.{Fits}
+use Rattle.lines.specs.Lines.{beforeEnd}
 use Rattle.intake.specs.declared.Line.{Line}
-use Rattle.intake.specs.Inner.{beforeEnd, heldIn, keptIn, linesIn, leftIn}
+use Rattle.intake.specs.Inner.{heldIn, keptIn, linesIn, leftIn}
 use Rattle.book.specs.Book.{Book}
 use Rattle.intake.specs.Answers.{answerTo, answersTo}
 use Rattle.book.specs.Inner.{bookOf, coverOf}

@@ -5,8 +5,8 @@ use mathlib.Core.Path.{_≡_, sym, _∙_}
 use lib.IntN.{pos}
 use mir.Facts.{toZ-ofZ}
 use Rattle.whole.specs.Whole.{inRange}
+use Rattle.whole.proofs.Signed.{natural}
 use Rattle.numbers.specs.Numbers.{byteOf}
-use Rattle.numbers.proofs.Laws.{natural}
 use Rattle.numbers.proofs.byte_of.Statement.{statement}
 use Rattle.numbers.proofs.byte_of.Tie as tie
 

@@ -30,6 +30,12 @@ put-framed-requires c κs = search needs
 enum-told : tie.Need-enum-told
 enum-told c = search needs
 
+put-pair-requires : tie.Need-put-pair-requires
+put-pair-requires c κs = search needs
+
+enum-told-2 : tie.Need-enum-told-2
+enum-told-2 c = search needs
+
 array-share-prefix-none : tie.Need-array-share-prefix-none
 array-share-prefix-none c = search needs
 
@@ -67,7 +73,13 @@ same-length-5 : tie.Need-same-length-5
 same-length-5 c = search needs
 
 returns-5 : tie.Need-returns-5
-returns-5 c = let y = c .before .before in rw (y .before .before .before .enum-told .given .1) (y .put-line .ensures)
+returns-5 c = rw (c .before .before .before .before .enum-told .given .1) (c .before .before .put-pair .ensures)
+
+same-length-6 : tie.Need-same-length-6
+same-length-6 c = search needs
+
+returns-6 : tie.Need-returns-6
+returns-6 c = let y = c .before .before in rw (y .before .before .before .enum-told2 .given .1) (y .put-line .ensures)
 
 pub put-answer-spec : {M : Type 1} → statement M
 put-answer-spec =
@@ -82,6 +94,8 @@ put-answer-spec =
     enum-known-question-4
     put-framed-requires
     enum-told
+    put-pair-requires
+    enum-told-2
     array-share-prefix-none
     slice-aggregate-put-line
     put-line-requires
@@ -94,4 +108,6 @@ put-answer-spec =
     same-length-4
     returns-4
     same-length-5
-    returns-5)
+    returns-5
+    same-length-6
+    returns-6)

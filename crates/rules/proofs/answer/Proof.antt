@@ -63,6 +63,12 @@ enum-told-10 c = search needs
 loss-requires : tie.Need-loss-requires
 loss-requires c κs = search needs
 
+enum-told-11 : tie.Need-enum-told-11
+enum-told-11 c = search needs
+
+pair-requires : tie.Need-pair-requires
+pair-requires c κs = search needs
+
 returns : tie.Need-returns
 returns c = rw (c .before .enum-told .given .1) (c .kilowatts .ensures)
 
@@ -93,6 +99,9 @@ returns-9 c = rw (c .before .enum-told9 .given .1) (c .energy .ensures)
 returns-10 : tie.Need-returns-10
 returns-10 c = rw (c .before .enum-told10 .given .1) (c .loss .ensures)
 
+returns-11 : tie.Need-returns-11
+returns-11 c = rw (c .before .enum-told11 .given .1) (c .pair .ensures)
+
 pub answer-spec : {M : Type 1} → statement M
 answer-spec =
     tie.close
@@ -117,6 +126,8 @@ answer-spec =
     energy-requires
     enum-told-10
     loss-requires
+    enum-told-11
+    pair-requires
     returns
     returns-2
     returns-3
@@ -126,4 +137,5 @@ answer-spec =
     returns-7
     returns-8
     returns-9
-    returns-10)
+    returns-10
+    returns-11)

@@ -40,6 +40,9 @@ seconds-requires c κs = search needs
 singles-requires-7 : tie.Need-singles-requires-7
 singles-requires-7 c κs = search needs
 
+singles-requires-8 : tie.Need-singles-requires-8
+singles-requires-8 c κs = search needs
+
 hourly-requires : tie.Need-hourly-requires
 hourly-requires c κs = search needs
 
@@ -67,11 +70,14 @@ hourly-requires-6 c κs = search needs
 stated-requires-3 : tie.Need-stated-requires-3
 stated-requires-3 c κs = search needs
 
-singles-requires-8 : tie.Need-singles-requires-8
-singles-requires-8 c κs = search needs
-
 singles-requires-9 : tie.Need-singles-requires-9
 singles-requires-9 c κs = search needs
+
+singles-requires-10 : tie.Need-singles-requires-10
+singles-requires-10 c κs = search needs
+
+singles-requires-11 : tie.Need-singles-requires-11
+singles-requires-11 c κs = search needs
 
 returns : tie.Need-returns
 unfolding questionOf letterOf
@@ -119,43 +125,43 @@ returns-11 c = rw (c .before .match .keys11) (c .singles7 .ensures)
 
 returns-12 : tie.Need-returns-12
 unfolding questionOf letterOf
-returns-12 c = rw (c .before .match .keys12) (c .hourly .ensures)
+returns-12 c = rw (c .before .match .keys12) (c .singles8 .ensures)
 
 returns-13 : tie.Need-returns-13
 unfolding questionOf letterOf
-returns-13 c = rw (c .before .match .keys13) (c .hourly2 .ensures)
+returns-13 c = rw (c .before .match .keys13) (c .hourly .ensures)
 
 returns-14 : tie.Need-returns-14
 unfolding questionOf letterOf
-returns-14 c = rw (c .before .match .keys14) (c .stated .ensures)
+returns-14 c = rw (c .before .match .keys14) (c .hourly2 .ensures)
 
 returns-15 : tie.Need-returns-15
 unfolding questionOf letterOf
-returns-15 c = rw (c .before .match .keys15) (c .hourly3 .ensures)
+returns-15 c = rw (c .before .match .keys15) (c .stated .ensures)
 
 returns-16 : tie.Need-returns-16
 unfolding questionOf letterOf
-returns-16 c = rw (c .before .match .keys16) (c .hourly4 .ensures)
+returns-16 c = rw (c .before .match .keys16) (c .hourly3 .ensures)
 
 returns-17 : tie.Need-returns-17
 unfolding questionOf letterOf
-returns-17 c = rw (c .before .match .keys17) (c .stated2 .ensures)
+returns-17 c = rw (c .before .match .keys17) (c .hourly4 .ensures)
 
 returns-18 : tie.Need-returns-18
 unfolding questionOf letterOf
-returns-18 c = rw (c .before .match .keys18) (c .hourly5 .ensures)
+returns-18 c = rw (c .before .match .keys18) (c .stated2 .ensures)
 
 returns-19 : tie.Need-returns-19
 unfolding questionOf letterOf
-returns-19 c = rw (c .before .match .keys19) (c .hourly6 .ensures)
+returns-19 c = rw (c .before .match .keys19) (c .hourly5 .ensures)
 
 returns-20 : tie.Need-returns-20
 unfolding questionOf letterOf
-returns-20 c = rw (c .before .match .keys20) (c .stated3 .ensures)
+returns-20 c = rw (c .before .match .keys20) (c .hourly6 .ensures)
 
 returns-21 : tie.Need-returns-21
 unfolding questionOf letterOf
-returns-21 c = rw (c .before .match .keys21) (c .singles8 .ensures)
+returns-21 c = rw (c .before .match .keys21) (c .stated3 .ensures)
 
 returns-22 : tie.Need-returns-22
 unfolding questionOf letterOf
@@ -163,7 +169,15 @@ returns-22 c = rw (c .before .match .keys22) (c .singles9 .ensures)
 
 returns-23 : tie.Need-returns-23
 unfolding questionOf letterOf
-returns-23 c = sym (nowhere (c .before .args .code) Unit table (c .match .rest) .1)
+returns-23 c = rw (c .before .match .keys23) (c .singles10 .ensures)
+
+returns-24 : tie.Need-returns-24
+unfolding questionOf letterOf
+returns-24 c = rw (c .before .match .keys24) (c .singles11 .ensures)
+
+returns-25 : tie.Need-returns-25
+unfolding questionOf letterOf
+returns-25 c = sym (nowhere (c .before .args .code) Unit table (c .match .rest) .1)
 
 pub question-of-spec : {M : Type 1} → statement M
 question-of-spec =
@@ -180,6 +194,7 @@ question-of-spec =
     singles-requires-6
     seconds-requires
     singles-requires-7
+    singles-requires-8
     hourly-requires
     hourly-requires-2
     stated-requires
@@ -189,8 +204,9 @@ question-of-spec =
     hourly-requires-5
     hourly-requires-6
     stated-requires-3
-    singles-requires-8
     singles-requires-9
+    singles-requires-10
+    singles-requires-11
     returns
     returns-2
     returns-3
@@ -213,4 +229,6 @@ question-of-spec =
     returns-20
     returns-21
     returns-22
-    returns-23)
+    returns-23
+    returns-24
+    returns-25)

@@ -1,0 +1,4 @@
+-- A logger's hour.
+pub mod Logger
+pub mod Accepted
+pub mod Inner

@@ -1,0 +1,4 @@
+-- A logger's pair.
+pub mod Single
+pub mod Pair
+pub mod Accepted

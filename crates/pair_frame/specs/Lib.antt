@@ -1,0 +1,2 @@
+-- The frame of a logger's pair.
+pub mod PairFrame
