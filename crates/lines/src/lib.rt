@@ -10,7 +10,7 @@ ghost use Rattle.lines.specs.Inner.{endsOf, isBegun, noEnd};
 // How many bytes are counted at a time: a byte holds as many.
 const RUN: usize = 255;
 
-// How many bytes without a line end are passed at a time: a frame's digits.
+// How many bytes without a line end are passed at once: a frame's digits.
 const BLOCK: usize = 24;
 
 // How many lines there are.
@@ -31,7 +31,7 @@ pub fn count(bytes: &[u8]) -> usize
 pub fn line_end(bytes: &[u8], from: usize) -> usize
     ensures { λ r. ⌜ r ≡ from + length (beforeEnd (drop from (now (bytes .entry)))) ⌝ }
 {
-    first_end(bytes, past_blocks(bytes, from))
+    first_end(bytes, past_block(bytes, from))
 }
 
 // Where the bytes end that are counted from a place on.
@@ -82,15 +82,14 @@ fn counted(lines: usize, ends: bool) -> usize
     if ends { lines + 1 } else { lines }
 }
 
-// A place past whole blocks, from which on the line ends where it does from the place on.
-fn past_blocks(bytes: &[u8], from: usize) -> usize
+// The place past a block, or the same one: from there on the line ends where it does from the place on.
+fn past_block(bytes: &[u8], from: usize) -> usize
     ensures { λ r. ⌜ from + length (beforeEnd (drop from (now (bytes .entry)))) ≡ r + length (beforeEnd (drop r (now (bytes .entry)))) ⌝ }
 {
-    let mut i = from;
-    while block_at(bytes, i) {
-        i += BLOCK;
+    if block_at(bytes, from) {
+        return from + BLOCK;
     }
-    i
+    from
 }
 
 // Whether a block without a line end begins at a place.

@@ -111,38 +111,24 @@ fn far(bits: u32) -> bool
     150 <= exponent(bits)
 }
 
-// The nearest whole number to k times the single. From 63 binary places on it is 0.
+// The nearest whole number to k times the single. Below 2 ^ -39, an exponent of 88, it is 0.
 fn whole_of(k: u64, bits: u32) -> i64
     requires { ⌜ (exponentOf bits < 150) × (k ≤ 1000) ⌝ }
     ensures { λ r. ⌜ r ≡ wholeOf k bits ⌝ }
 {
-    let n = places(bits);
-    if 62 < n {
+    let e = exponent(bits);
+    if e < 88 {
         return 0;
     }
-    signed_by(bits, half_up(significand(bits) * k, n))
+    signed_by(bits, half_up(significand(bits) * k, 150 - e))
 }
 
-// The single is its significand over 2 ^ places.
-fn places(bits: u32) -> u32
-    requires { ⌜ exponentOf bits < 150 ⌝ }
-    ensures { λ r. ⌜ r ≡ 149 - (exponentOf bits - 1) ⌝ }
-{
-    let e = exponent(bits);
-    if e == 0 {
-        return 149;
-    }
-    150 - e
-}
-
+// The fraction with its leading one. The single is that over 2 ^ (150 - exponent).
 fn significand(bits: u32) -> u64
+    requires { ⌜ 0 < exponentOf bits ⌝ }
     ensures { λ r. ⌜ r ≡ significand bits ⌝ }
 {
-    let fraction = (bits % 0x80_0000) as u64;
-    if exponent(bits) == 0 {
-        return fraction;
-    }
-    0x80_0000 + fraction
+    0x80_0000 + (bits % 0x80_0000) as u64
 }
 
 // n / 2 ^ places to the nearest, a half going up.
