@@ -211,7 +211,7 @@ asked = [
     *(asked_pair(single(60.0625) + n, 0) for n in (-1, 0, 1)),
     *(asked_pair(single(60), bits) for bits in (0, 2**31, 1, 2**23 - 1, 2**31 + 2**23)),
     *(asked_pair(bits, 0) for bits in (single(55), single(54.9994), single(65), single(65.0006), single(-60), 0)),
-    # 17 before 4: infinities, NaNs, and a number that is no pattern of 32 bits
+    # 17 before 4: infinities, a NaN, and a number that is no pattern of 32 bits; the largest single is 4
     *(asked_pair(*bits) for bits in ((0x7F800000, 0), (0, 0xFF800000), (0x7FC00001, 0), (0x7F7FFFFF, 0), (single(60), 2**32), (-1, 0))),
     *((f"pair_frame {words(*numbers)}", pair_frame(*numbers)) for numbers in ((0, 0, 0), (3600, *sent[3600]), (0x89AB, 0xCDEF0123, 0x456789AB), (65535, 2**32 - 1, 2**32 - 1))),
     ("pair_frame 65536 0 0", "13"),

@@ -3,7 +3,8 @@
 // their number and a check sum are printed. The peer is bench/imports.rs.
 //
 // It is a program of its own: the compiler puts a function in place where it has one caller, as the reader of a line
-// has in `import` and in `ledger`. In one program with `bench`, the reader and the writer of a line would have two each.
+// has in `import` and in `ledger`. In one program with `bench`, the reader and the writer of a line would have two
+// each.
 // A program cannot lend another its module, so chance.rt is bench's.
 mod chance;
 

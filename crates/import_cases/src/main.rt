@@ -1,6 +1,6 @@
 // The run cases of the program `import`. The input has them one after another: a heading, a byte 01, the input of the
-// case, a byte 00. Each goes to crates/import_text in chunks of one byte, the smallest there are, and what it comes to is
-// written under the heading.
+// case, a byte 00. Each goes to crates/import_text in chunks of one byte, the smallest there are, and what it comes to
+// is written under the heading.
 use import_text::Gathered;
 ghost use lib.ListN.{length};
 ghost use mathlib.Core.Path.{_≡_};

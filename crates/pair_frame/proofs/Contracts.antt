@@ -1,6 +1,6 @@
 -- The round trips over the contracts as the toolchain reads them: any answer that meets `write_pair`'s and refuses nothing leaves a line that any answer that meets `read_pair`'s reads as the
 -- same second and bits; and a line so read is what any answer to `write_pair` leaves for them. The contracts are equations, so that both follow from the definitions' round trips.
--- Assumes nothing.
+-- And a line that reads as a pair is refused with 13 by any answer that meets `read_frame`'s. Assumes nothing.
 use Prim.Native.Nat.{ℕ}
 use mathlib.Core.Path.{_≡_, refl, sym, ap, _∙_}
 use mathlib.Core.List.{List, [], _∷_}
