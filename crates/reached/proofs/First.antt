@@ -1,0 +1,96 @@
+-- The first window that stays below a threshold, told by each window's scores: there is none, and each has a score at or above; or it is the i-th, and each before it has one. And what is
+-- read of a window: a score at least, and no more than it has. By induction on the windows. Assumes nothing.
+use Prim.Native.Nat.{ℕ, zero, suc, _+_, _*_, _≤_, _<_, max}
+use mathlib.Core.Path.{_≡_, refl, sym, ap, _∙_}
+use mathlib.Core.Bool.{Bool, true, false, _&&_}
+use mathlib.Core.List.{List, [], _∷_}
+use native.Mathlib.Nat.{not-suc-le-zero}
+use native.Mathlib.Omega.{arith}
+use lib.Dec.{ltb, leb}
+use lib.ListN.{length, getD}
+use borrow.Author.Tests.{lt-ltb, le-ltb, ltb-true, ltb-false}
+use Rattle.whole.specs.Folds.{foldTo, addTo}
+use Rattle.whole.proofs.Choice.{clash, by-test, and-both, both}
+use Rattle.rate.specs.Rolling.{largest}
+use Rattle.reached.specs.Reached.{staysBelow, firstBelow, readIn}
+use Rattle.reached.specs.Accepted.{Below, Reaches}
+
+module _ (threshold : ℕ) where
+  -- ---- one window
+
+  pub stays-below : (w : List ℕ) → staysBelow threshold w ≡ true → Below threshold w
+  stays-below [] e k h = absurd (not-suc-le-zero h)
+  stays-below (x ∷ w) e zero h = ltb-true x threshold (and-both (ltb x threshold) (staysBelow threshold w) e .0)
+  stays-below (x ∷ w) e (suc k) h = stays-below w (and-both (ltb x threshold) (staysBelow threshold w) e .1) k (omega arith)
+
+  pub reaches-not : (w : List ℕ) → staysBelow threshold w ≡ false → Reaches threshold w
+  reaches-not [] e = clash (sym e)
+  reaches-not (x ∷ w) e =
+      by-test (ltb x threshold)
+      (λ (t : ltb x threshold ≡ true).
+      let r = reaches-not w (rw t at e) in
+      record { back = suc (r .back); inside = omega (arith, r .inside); met = r .met })
+      (λ (t : ltb x threshold ≡ false). record { back = 0; inside = omega arith; met = ltb-false x threshold t })
+
+  -- by its largest score
+  pub largest-below : (w : List ℕ) → 0 < length w → Below threshold w → largest w < threshold
+  largest-below [] l h = absurd (not-suc-le-zero l)
+  largest-below (x ∷ []) l h = omega (arith, h 0 (omega arith))
+  largest-below (x ∷ y ∷ w) l h = omega (arith, h 0 (omega arith), largest-below (y ∷ w) (omega arith) (λ k g. h (suc k) (omega arith)))
+
+  pub largest-reaches : (w : List ℕ) (k : ℕ) → k < length w → getD w k 0 ≤ largest w
+  largest-reaches [] k h = absurd (not-suc-le-zero h)
+  largest-reaches (x ∷ w) zero h = omega arith
+  largest-reaches (x ∷ w) (suc k) h = omega (arith, largest-reaches w k (omega arith))
+
+  -- what is read of it
+  pub read-least : (w : List ℕ) → 0 < length w → 1 ≤ readIn threshold w
+  read-least [] l = absurd (not-suc-le-zero l)
+  read-least (x ∷ w) l = omega arith
+
+  pub read-most : (w : List ℕ) → readIn threshold w ≤ length w
+  read-most [] = omega arith
+  read-most (x ∷ w) =
+      by-test (leb threshold x)
+      (λ (t : leb threshold x ≡ true). rw t (omega arith))
+      (λ (t : leb threshold x ≡ false). rw t (omega (arith, read-most w)))
+
+  -- ---- the windows of the seconds n, n + 1, ..
+
+  pub data First (n : ℕ) (ws : List (List ℕ)) : Type 0 where
+    none-below : firstBelow threshold n ws ≡ 0 → ((j : ℕ) → j < length ws → Reaches threshold (getD ws j [])) → First n ws
+    first-below : (i : ℕ) → firstBelow threshold n ws ≡ n + i → i < length ws → Below threshold (getD ws i [])
+        → ((j : ℕ) → j < i → Reaches threshold (getD ws j [])) → First n ws
+
+  pub first : (n : ℕ) (ws : List (List ℕ)) → First n ws
+  first n [] = none-below refl (λ j h. absurd (not-suc-le-zero h))
+  first n (w ∷ ws) =
+      by-test (staysBelow threshold w)
+      (λ (t : staysBelow threshold w ≡ true).
+      first-below 0 (rw t (omega arith)) (omega arith) (stays-below w t) (λ j h. absurd (not-suc-le-zero h)))
+      (λ (t : staysBelow threshold w ≡ false). later t (reaches-not w t) (first (n + 1) ws))
+    where
+      later : staysBelow threshold w ≡ false → Reaches threshold w → First (n + 1) ws → First n (w ∷ ws)
+      later t r (none-below e each) = none-below (rw t e) (after r each)
+        where
+          after : Reaches threshold w → ((j : ℕ) → j < length ws → Reaches threshold (getD ws j [])) → (j : ℕ) → j < length (w ∷ ws) → Reaches threshold (getD (w ∷ ws) j [])
+          after r each zero h = r
+          after r each (suc j) h = each j (omega arith)
+      later t r (first-below i e l b before) = first-below (suc i) (rw t (e ∙ omega arith)) (omega arith) b (after r before)
+        where
+          after : Reaches threshold w → ((j : ℕ) → j < i → Reaches threshold (getD ws j [])) → (j : ℕ) → j < suc i → Reaches threshold (getD (w ∷ ws) j [])
+          after r before zero h = r
+          after r before (suc j) h = before j (omega arith)
+
+-- no window both stays below and reaches; and one that stays below a threshold stays below a higher one
+pub not-both {ℓ} : {X : Type ℓ} (t u : ℕ) (w : List ℕ) → t ≤ u → Below t w → Reaches u w → X
+not-both t u w h b r = absurd (omega (arith, b (r .back) (r .inside), r .met))
+
+-- a sum of so many terms of 1 to 4
+pub sum-four : (n : ℕ) (f : ℕ → ℕ) → ((k : ℕ) → k < n → (1 ≤ f k) × (f k ≤ 4)) → (n ≤ addTo n f) × (addTo n f ≤ 4 * n)
+unfolding foldTo
+sum-four zero f h = (omega arith, omega arith)
+sum-four (suc n) f h =
+    let s = sum-four n f (λ k l. h k (omega arith)) in
+    let t = h n (omega arith) in
+    (omega arith, omega arith)

@@ -1,0 +1,99 @@
+-- One step of judging at a time: a score of a window that is read, a window that reaches the threshold or stays below it, a second that passes or is named. What a loop over the seconds and
+-- their windows needs; by one step of the definitions each. Assumes nothing.
+use Prim.Native.Nat.{ℕ, suc, _+_, _*_, _≤_, _<_}
+use mathlib.Core.Path.{_≡_, refl, sym, ap, _∙_}
+use mathlib.Core.Bool.{Bool, true, false, _&&_}
+use mathlib.Core.List.{List, [], _∷_}
+use native.Mathlib.Omega.{arith}
+use lib.Dec.{ltb, leb}
+use lib.ListN.{length, drop, getD}
+use borrow.Author.Tests.{lt-ltb, le-ltb, le-leb, lt-leb, ne-eqb}
+use Rattle.whole.specs.Choice.{pick}
+use Rattle.whole.specs.Folds.{addTo}
+use Rattle.whole.proofs.Folds.{fold-none, fold-step}
+use Rattle.whole.proofs.Runs.{rest, no-rest}
+use Rattle.units.specs.Limits.{secondsOfHour}
+use Rattle.reached.specs.Reached.{hourWindows, staysBelow, firstBelow, namedSecond, secondsJudged, readIn, scoresRead, judgedHour}
+use Rattle.reached.specs.declared.Judged.{Judged}
+use Rattle.reached.proofs.Windows.{window-count}
+
+-- ---- a window: its first k scores are read, and all are below
+
+module _ (threshold : ℕ) (window : List ℕ) where
+  pub record Reading (k : ℕ) : Type 0 where
+    pub stays : staysBelow threshold window ≡ staysBelow threshold (drop k window)
+    pub count : readIn threshold window ≡ k + readIn threshold (drop k window)
+
+  pub reading-none : Reading 0
+  reading-none = record { stays = refl; count = omega arith }
+
+  module _ (k : ℕ) (r : Reading k) where
+    -- one more that is below
+    pub reading-more : k < length window → getD window k 0 < threshold → Reading (k + 1)
+    reading-more l h =
+        let w = drop (k + 1) window in
+        let s = rest window k 0 l in
+        let below = lt-ltb (getD window k 0) threshold h in
+        let over = lt-leb threshold (getD window k 0) h in
+        record {
+          stays = r .stays ∙ ap (staysBelow threshold) s ∙ rw below;
+          count = let one : readIn threshold (drop k window) ≡ 1 + readIn threshold w = ap (readIn threshold) s ∙ rw over in r .count ∙ omega arith;
+        }
+
+    -- one that is not: the window is left there
+    pub reading-met : k < length window → threshold ≤ getD window k 0 → (staysBelow threshold window ≡ false) × (readIn threshold window ≡ k + 1)
+    reading-met l h =
+        let s = rest window k 0 l in
+        let below = le-ltb (getD window k 0) threshold h in
+        let over = le-leb threshold (getD window k 0) h in
+        let one : readIn threshold (drop k window) ≡ 1 = ap (readIn threshold) s ∙ rw over in
+        (r .stays ∙ ap (staysBelow threshold) s ∙ rw below, r .count ∙ omega arith)
+
+    -- none is left
+    pub reading-all : length window ≤ k → (staysBelow threshold window ≡ true) × (readIn threshold window ≡ k)
+    reading-all l =
+        let s = no-rest window k l in
+        let none : readIn threshold (drop k window) ≡ 0 = ap (readIn threshold) s in
+        (r .stays ∙ ap (staysBelow threshold) s, r .count ∙ omega arith)
+
+-- ---- an hour: its first i seconds are judged, and none is named
+
+module _ (earlier scores : List ℕ) (threshold : ℕ) where
+  abbrev seen : List (List ℕ)
+  seen = hourWindows earlier scores
+
+  abbrev readAt : ℕ → ℕ
+  readAt i = readIn threshold (getD seen i [])
+
+  pub record Judging (i read : ℕ) : Type 0 where
+    pub named : namedSecond earlier scores threshold ≡ firstBelow threshold (i + 1) (drop i seen)
+    pub count : addTo i readAt ≡ read
+
+  pub judging-none : Judging 0 0
+  judging-none = record { named = refl; count = fold-none 0 _+_ readAt }
+
+  module _ (i read : ℕ) (j : Judging i read) where
+    more : {n : ℕ} → readAt i ≡ n → addTo (i + 1) readAt ≡ read + n
+    more e = fold-step 0 _+_ i readAt ∙ (λ a. j .count a + e a)
+
+    -- a second's window comes next
+    at : i < length scores → namedSecond earlier scores threshold ≡ pick (staysBelow threshold (getD seen i [])) (i + 1) (firstBelow threshold (i + 1 + 1) (drop (i + 1) seen))
+    at l = j .named ∙ ap (firstBelow threshold (i + 1)) (rest seen i [] (omega (arith, window-count earlier scores)))
+
+    -- it reaches the threshold
+    pub judging-more : {n : ℕ} → i < length scores → (staysBelow threshold (getD seen i []) ≡ false) × (readAt i ≡ n) → Judging (i + 1) (read + n)
+    judging-more l w = record { named = at l ∙ rw (w .0); count = more (w .1) }
+
+    -- it stays below
+    pub judging-named : {n : ℕ} → i < length scores → (staysBelow threshold (getD seen i []) ≡ true) × (readAt i ≡ n)
+        → judgedHour earlier scores threshold ≡ record { refusal = 0; reached = false; second = i + 1; judged = i + 1; read = read + n }
+    judging-named l w =
+        let t : namedSecond earlier scores threshold ≡ i + 1 = at l ∙ rw (w .0) in
+        let some = ne-eqb (i + 1) 0 (λ z. absurd (omega arith)) in
+        rw (t, some, more (w .1))
+
+    -- none is left
+    pub judging-all : i ≡ secondsOfHour → length scores ≤ i → judgedHour earlier scores threshold ≡ record { refusal = 0; reached = true; second = 0; judged = i; read = read }
+    judging-all e l =
+        let t : namedSecond earlier scores threshold ≡ 0 = j .named ∙ ap (firstBelow threshold (i + 1)) (no-rest seen i (omega (arith, window-count earlier scores))) in
+        rw (t, sym e, j .count)

@@ -1,0 +1,99 @@
+-- An hour's seconds by a threshold: one is named and is the first whose whole window stays below, or none is and every window reaches it. So none is named exactly where the smallest rolling
+-- rate is at least the threshold, one to four scores are read a second judged, and a higher threshold names no later second. By the first window that stays below, told by each window's
+-- scores (First). Assumes nothing.
+use Prim.Native.Nat.{ℕ, _+_, _*_, _≤_, _<_}
+use mathlib.Core.Path.{_≡_, sym, _∙_}
+use mathlib.Core.Bool.{true, false}
+use mathlib.Core.List.{List, []}
+use native.Mathlib.Omega.{arith}
+use lib.Dec.{eqb, leb, ltb}
+use lib.ListN.{length, getD, List·getD-map}
+use borrow.Author.Tests.{eq-eqb, ne-eqb, le-leb, lt-leb, ltb-true, ltb-false}
+use Rattle.whole.proofs.Choice.{by-test}
+use Rattle.units.specs.Limits.{secondsOfHour}
+use Rattle.rate.specs.Rolling.{largest, smallest, rolling}
+use Rattle.rate.proofs.Rates.{length-rolling, smallest-least, smallest-most}
+use Rattle.reached.specs.Reached.{hourWindows, namedSecond, secondsJudged, scoresRead}
+use Rattle.reached.specs.Accepted.{windowAt, Reaches, FirstBelow}
+use Rattle.reached.proofs.Windows.{window-count, window-long}
+use Rattle.reached.proofs.First.{First, none-below, first-below, first, not-both, largest-below, largest-reaches, read-least, read-most, sum-four}
+
+module _ (earlier scores : List ℕ) (threshold : ℕ) where
+  pub data Named : Type 0 where
+    no-second : namedSecond earlier scores threshold ≡ 0 → ((j : ℕ) → j < secondsOfHour → Reaches threshold (windowAt earlier scores j)) → Named
+    the-second : (i : ℕ) → namedSecond earlier scores threshold ≡ i + 1 → FirstBelow earlier scores threshold i → Named
+
+module _ (earlier scores : List ℕ) (threshold : ℕ) (long : length scores ≡ secondsOfHour) where
+  pub named : Named earlier scores threshold
+  named = told (first threshold 1 (hourWindows earlier scores))
+    where
+      told : First threshold 1 (hourWindows earlier scores) → Named earlier scores threshold
+      told (none-below e each) = no-second e (λ j h. each j (omega (arith, window-count earlier scores)))
+      told (first-below i e l b before) =
+          the-second i (e ∙ omega arith) (record { within = omega (arith, window-count earlier scores); below = b; before = before })
+
+  -- the rolling rate of a second is its window's largest score
+  rolling-at : (i : ℕ) → getD (rolling earlier scores) i 0 ≡ largest (windowAt earlier scores i)
+  unfolding rolling
+  rolling-at i = List·getD-map largest (hourWindows earlier scores) i []
+
+  pub nonempty : (i : ℕ) → i < length scores → 0 < length (windowAt earlier scores i)
+  nonempty i h = omega (arith, window-long earlier scores i h)
+
+  -- none is named exactly where the hourly rate is at least the threshold
+  pub named-rate : eqb (namedSecond earlier scores threshold) 0 ≡ leb threshold (smallest (rolling earlier scores))
+  named-rate = told named
+    where
+      told : Named earlier scores threshold → eqb (namedSecond earlier scores threshold) 0 ≡ leb threshold (smallest (rolling earlier scores))
+      told (no-second e each) =
+          let over = smallest-most threshold (rolling earlier scores) (omega (arith, length-rolling earlier scores))
+              (λ i h.
+              let r = each i (omega (arith, length-rolling earlier scores)) in
+              omega (arith, rolling-at i, r .met, largest-reaches threshold (windowAt earlier scores i) (r .back) (r .inside))) in
+          eq-eqb _ 0 e ∙ sym (le-leb threshold (smallest (rolling earlier scores)) over)
+      told (the-second i e f) =
+          let inside : i < length scores = omega (arith, f .within) in
+          let under = largest-below threshold (windowAt earlier scores i) (nonempty i inside) (f .below) in
+          let least = smallest-least (rolling earlier scores) i (omega (arith, length-rolling earlier scores)) in
+          ne-eqb _ 0 (λ (z : namedSecond earlier scores threshold ≡ 0). absurd (omega arith)) ∙ sym (lt-leb threshold (smallest (rolling earlier scores)) (omega (arith, rolling-at i)))
+
+  -- how many are judged
+  pub judged-within : (1 ≤ secondsJudged earlier scores threshold) × (secondsJudged earlier scores threshold ≤ secondsOfHour)
+  judged-within = told named
+    where
+      told : Named earlier scores threshold → (1 ≤ secondsJudged earlier scores threshold) × (secondsJudged earlier scores threshold ≤ secondsOfHour)
+      told (no-second e each) = rw e (omega arith, omega arith)
+      told (the-second i e f) = rw (e, ne-eqb (i + 1) 0 (λ z. absurd (omega arith))) (omega arith, omega (arith, f .within))
+
+  -- one to four scores a second judged
+  pub read-within : (secondsJudged earlier scores threshold ≤ scoresRead earlier scores threshold) × (scoresRead earlier scores threshold ≤ 4 * secondsJudged earlier scores threshold)
+  read-within =
+      sum-four (secondsJudged earlier scores threshold) _
+      (λ k l.
+      let h : k < length scores = omega (arith, judged-within .1) in
+      let w = windowAt earlier scores k in
+      (read-least threshold w (nonempty k h), omega (arith, read-most threshold w, window-long earlier scores k h)))
+
+-- there is one first second at most
+pub first-only : (earlier scores : List ℕ) (threshold i j : ℕ) → FirstBelow earlier scores threshold i → FirstBelow earlier scores threshold j → i ≡ j
+first-only earlier scores threshold i j f g =
+    by-test (ltb i j)
+    (λ (t : ltb i j ≡ true). clashing i j f g (ltb-true i j t))
+    (λ (t : ltb i j ≡ false).
+    by-test (ltb j i)
+    (λ (u : ltb j i ≡ true). clashing j i g f (ltb-true j i u))
+    (λ (u : ltb j i ≡ false). omega (arith, ltb-false i j t, ltb-false j i u)))
+  where
+    clashing : {X : Type 0} (i j : ℕ) → FirstBelow earlier scores threshold i → FirstBelow earlier scores threshold j → i < j → X
+    clashing i j f g h = not-both threshold threshold (windowAt earlier scores i) (omega arith) (f .below) (g .before i h)
+
+-- where a threshold names a second, a higher one names that second or an earlier one
+pub higher : (earlier scores : List ℕ) (t u : ℕ) → t ≤ u → Named earlier scores t → Named earlier scores u → (namedSecond earlier scores t ≡ 0 → ⊥)
+    → (1 ≤ namedSecond earlier scores u) × (namedSecond earlier scores u ≤ namedSecond earlier scores t)
+higher earlier scores t u h (no-second e each) later n = absurd (n e)
+higher earlier scores t u h (the-second i e f) (no-second d each) n = not-both t u (windowAt earlier scores i) h (f .below) (each i (f .within))
+higher earlier scores t u h (the-second i e f) (the-second j d g) n =
+    (omega arith,
+    by-test (ltb i j)
+    (λ (l : ltb i j ≡ true). not-both t u (windowAt earlier scores i) h (f .below) (g .before i (ltb-true i j l)))
+    (λ (l : ltb i j ≡ false). omega (arith, ltb-false i j l)))

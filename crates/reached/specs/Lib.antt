@@ -1,0 +1,3 @@
+-- Whether an hour reached a threshold.
+pub mod Reached
+pub mod Accepted
