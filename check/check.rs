@@ -59,13 +59,14 @@ const fn runs(name: &'static str, runs: usize, asks: Asks) -> Part {
     Part { name, asks, runs, grows: true }
 }
 
-const PARTS: [Part; 51] = [
+const PARTS: [Part; 52] = [
     once("figures", Asks::Desk(figures::questions)),
     once("kilowatts", Asks::Desk(questions::kilowatts)),
     once("curve", Asks::Desk(questions::curve)),
     runs("score", 1, Asks::Desk(questions::score)),
     runs("ramp", 1, Asks::Desk(questions::ramp)),
     runs("rate", 1, Asks::Desk(questions::rate)),
+    runs("reached", 1, Asks::Desk(questions::reached)),
     runs("bands", 1, Asks::Desk(questions::bands)),
     runs("fees", 1, Asks::Desk(questions::fees)),
     runs("energy", 1, Asks::Desk(questions::energy)),

@@ -85,8 +85,8 @@ enum Needs {
     Just(usize),
     /// So many, then pairs.
     Pairs(usize),
-    /// E, E earlier scores and the hour's own.
-    Scores,
+    /// So many, then E, E earlier scores and the hour's own.
+    Scores(usize),
     /// So many, then an hour of the product.
     HourAfter(usize, Product),
 }
@@ -123,7 +123,8 @@ fn needs(word: &[u8]) -> Option<Needs> {
         b"ramp" | b"fee" | b"pair" => Needs::Just(2),
         b"quality" | b"pair_frame" => Needs::Just(3),
         b"score" | b"loss" | b"frame" | b"loss_frames" => Needs::Just(4),
-        b"rate" => Needs::Scores,
+        b"rate" => Needs::Scores(0),
+        b"reached" => Needs::Scores(1),
         b"energy" => Needs::Just(6 + SECONDS),
         b"bands" => Needs::Pairs(0),
         b"factor" => Needs::Pairs(1),
@@ -157,7 +158,7 @@ fn needed(needs: &Needs, numbers: &[i64]) -> usize {
     match *needs {
         Needs::Just(count) => count,
         Needs::Pairs(head) => head + numbers.len().saturating_sub(head).next_multiple_of(2),
-        Needs::Scores => list_end(numbers, 0, 1) + SECONDS,
+        Needs::Scores(head) => list_end(numbers, head, 1) + SECONDS,
         Needs::HourAfter(place, product) => {
             list_end(numbers, list_end(numbers, place + product.head(), 2), 1) + product.state() + 2 * SECONDS
         }
@@ -246,6 +247,14 @@ fn earlier(numbers: &[i64]) -> (Earlier, &[i64]) {
 fn rate(numbers: &[i64]) -> Answer<i64> {
     let (earlier, scores) = earlier(numbers);
     rules::rate(&earlier, &bytes(scores))
+}
+
+/// THRESHOLD, then as for a rate: reached (1 yes, 0 no), second, seconds judged, scores read.
+fn reached(numbers: &[i64]) -> Answer<[i64; 4]> {
+    let (earlier, scores) = earlier(&numbers[1..]);
+    let threshold = if wrong(Fault::ThresholdWrapped) { numbers[0] & 255 } else { as_byte(numbers[0]) };
+    let verdict = rules::reached(&earlier, &bytes(scores), threshold)?;
+    Ok([verdict.reached.into(), verdict.second, verdict.judged, verdict.read])
 }
 
 /// KIND POWER COUNT: "another KIND" is no state, nor is one with "a number that a kind does not use and is not 0".
@@ -345,6 +354,7 @@ fn answer(word: &[u8], n: &[i64]) -> String {
         b"score" => fields(rules::score(n[0], n[1], n[2], n[3]).map(|score| [score])),
         b"ramp" => run(rules::ramp(n[0], n[1])),
         b"rate" => fields(rate(n).map(|rate| [rate])),
+        b"reached" => fields(reached(n)),
         b"bands" => fields(rules::bands(&pairs(n)).map(|()| [])),
         b"factor" => fields(rules::factor(&pairs(&n[1..]), as_byte(n[0])).map(|factor| [factor])),
         b"fee" => fields(rules::fee(n[0], n[1]).map(|dollars| [dollars])),

@@ -60,10 +60,18 @@ pub enum Fault {
     CountedAfterLines,
     CarriageReturnCut,
     PairCloses,
+    LastForFirst,
+    AtIsBelow,
+    CheckCounted,
+    ReadPastFour,
+    ReadToTheEnd,
+    NamedNotJudged,
+    ThresholdBeforeScore,
+    ThresholdWrapped,
 }
 
 /// The name on the command line, the fault, and what it does.
-pub const FAULTS: [(&str, Fault, &str); 55] = [
+pub const FAULTS: [(&str, Fault, &str); 63] = [
     ("half-toward-zero", Fault::HalfTowardZero, "a half is rounded toward zero"),
     ("window-of-three", Fault::WindowOfThree, "a rolling rate looks at three seconds"),
     ("own-second", Fault::OwnSecond, "a power is judged by its own second's frequency"),
@@ -119,6 +127,14 @@ pub const FAULTS: [(&str, Fault, &str); 55] = [
     ("counted-after-lines", Fault::CountedAfterLines, "a wrong number of lines is told after a line's fault"),
     ("carriage-return-cut", Fault::CarriageReturnCut, "`import` drops the byte 0D before a line end"),
     ("pair-closes", Fault::PairCloses, "`ledger` takes a frame of kind 10 for a close"),
+    ("last-for-first", Fault::LastForFirst, "`reached` names the last second whose window stays below"),
+    ("at-is-below", Fault::AtIsBelow, "a window with a score at the threshold stays below it"),
+    ("check-counted", Fault::CheckCounted, "the scores that the refusals look at are counted as read"),
+    ("read-past-four", Fault::ReadPastFour, "a fifth score is read where four are below"),
+    ("read-to-the-end", Fault::ReadToTheEnd, "every score of a window is read"),
+    ("named-not-judged", Fault::NamedNotJudged, "the named second is not among the judged ones"),
+    ("threshold-before-score", Fault::ThresholdBeforeScore, "in `reached` 5 comes before 4"),
+    ("threshold-wrapped", Fault::ThresholdWrapped, "a threshold past a byte is taken by its lowest eight bits"),
 ];
 
 static CHOSEN: OnceLock<Fault> = OnceLock::new();

@@ -47,14 +47,31 @@ fn lines() -> Vec<(String, &'static str)> {
         (idle(0, "2 101 0"), "1 0 0 0 0 0 0 0"),
         (idle(1, "3 101 0 0"), "4 0 0 0 0 0 0 0"),
         (idle(1, "3 0 0 0"), "0 100 10 0 0 0 0 0"),
+        (reached("95 0", "100"), "0 1 0 3600 3600"),
+        (reached("95 0", "100 0 0 0"), "0 1 0 3600 3606"),
+        (reached("95 0", "100 0 0 0 0"), "0 0 5 5 14"),
+        (reached("0 0", "0 0 0 0 0 0 0 0"), "0 1 0 3600 3600"),
+        (reached("101 0", "101"), "4 0 0 0 0"),
+        (reached("101 0", "100"), "5 0 0 0 0"),
+        (reached("101 2 0 101", "101"), "1 0 0 0 0"),
         ("pair 1114636288 1120403456".into(), "0 60000 100"),
         ("pair_frame 1 1114636288 1120403456".into(), "1000014270000042C80000CD"),
     ]
 }
 
-/// An hour's rate after earlier scores: some scores, then 100 in every second.
+/// A question about an hour of scores: what stands before them, some scores, then 100 in every second.
+fn scored(word: &str, before: &str, first: &str) -> String {
+    format!("{word} {before} {first}{}", " 100".repeat(3600 - first.split(' ').count()))
+}
+
+/// An hour's rate after earlier scores.
 fn scores(earlier: &str, first: &str) -> String {
-    format!("rate {earlier} {first}{}", " 100".repeat(3600 - first.split(' ').count()))
+    scored("rate", earlier, first)
+}
+
+/// Whether an hour reached a threshold (#106), which stands before the earlier scores.
+fn reached(before: &str, first: &str) -> String {
+    scored("reached", before, first)
 }
 
 /// A dReg hour at 60 Hz in which nothing is given or taken.

@@ -308,6 +308,66 @@ fn flat(pairs: &[Pair]) -> Vec<i64> {
     pairs.iter().flat_map(|(threshold, factor)| [*threshold, *factor]).collect()
 }
 
+/// A threshold, E with its scores, and the hour's.
+fn ask_reached(draw: &mut Draw, text: &mut String, threshold: i64, earlier: &[i64], list: &[i64]) {
+    ask(draw, text, "reached", &[&[threshold][..], earlier, list].concat());
+}
+
+/// A threshold about an hour's rate, or any, or past the limit.
+fn threshold_near(draw: &mut Draw, earlier: &[i64], list: &[i64]) -> i64 {
+    let lowest = (1..=SECONDS as i64).map(|t| rolling(&earlier[1..], list, t)).min().expect("an hour has seconds");
+    match draw.below(10) {
+        0 => draw.fit(THRESHOLD),
+        1 => draw.of(&[0, 1, 99, 100]),
+        2 => score_edge(draw),
+        _ => lowest + draw.between(-1, 1),
+    }
+}
+
+/// An hour for every set of a wrong E, an earlier score, a score of its own and a threshold past their limits.
+fn ask_reached_orders(draw: &mut Draw, text: &mut String) {
+    for set in 0..16 {
+        let mut earlier = if set & 1 == 1 { wrong_earlier(draw) } else { fit_earlier(draw) };
+        let mut list = scores(draw);
+        if set & 2 == 2 {
+            set_earlier(draw, &mut earlier, past_score);
+        }
+        if set & 4 == 4 {
+            list[draw.below(SECONDS)] = past_score(draw);
+        }
+        let threshold = if set & 8 == 8 { past_score(draw) } else { draw.fit(THRESHOLD) };
+        ask_reached(draw, text, threshold, &earlier, &list);
+    }
+}
+
+/// Calm hours with one dip, of one to five seconds, at their beginning, in their midst and at their end.
+fn ask_dips(draw: &mut Draw, text: &mut String) {
+    for first in [0, 1, 2, 3, 4, 1800, SECONDS - 5, SECONDS - 4, SECONDS - 1] {
+        for dip in 1..=5 {
+            let threshold = draw.between(1, SCORE.1);
+            let calm = |second: usize| !(first..first + dip).contains(&second);
+            let list: Vec<_> = (0..SECONDS).map(|at| draw.fit(if calm(at) { Limits(threshold, SCORE.1) } else { Limits(0, threshold - 1) })).collect();
+            let mut earlier = fit_earlier(draw);
+            if draw.one_in(2) {
+                earlier[1..].iter_mut().for_each(|score| *score = (*score).min(threshold - 1));
+            }
+            ask_reached(draw, text, threshold, &earlier, &list);
+        }
+    }
+}
+
+pub fn reached(draw: &mut Draw) -> String {
+    let mut text = String::new();
+    for _ in 0..30 {
+        let (list, earlier) = (scores(draw), fit_earlier(draw));
+        let threshold = threshold_near(draw, &earlier, &list);
+        ask_reached(draw, &mut text, threshold, &earlier, &list);
+    }
+    ask_dips(draw, &mut text);
+    ask_reached_orders(draw, &mut text);
+    text
+}
+
 /// A rate at, above or below a threshold of the list.
 fn rate_near(draw: &mut Draw, list: &[Pair]) -> i64 {
     if list.is_empty() || draw.one_in(4) {
@@ -880,6 +940,7 @@ pub fn first_windows(draw: &mut Draw) -> String {
             let second = |at: usize, draw: &mut Draw| if at < stumble { draw.between(0, low) } else { draw.between(90, SCORE.1) };
             let list: Vec<_> = (0..SECONDS).map(|at| second(at, draw)).collect();
             ask_rate(draw, &mut text, &earlier, &list);
+            ask_reached(draw, &mut text, 40, &earlier, &list);
             ask_stumble(draw, &mut text, &earlier, stumble);
         }
     }
@@ -1087,7 +1148,8 @@ pub fn month(draw: &mut Draw) -> String {
 
 // ---- reading
 
-const STRANGERS: [&str; 26] = [
+const STRANGERS: [&str; 27] = [
+    "reach",
     "curves",
     "kilowatt",
     "_",
@@ -1245,15 +1307,17 @@ fn earlier_counts(draw: &mut Draw, text: &mut String, product: Product, count: i
         hour.earlier[0] = count;
         ask_hour(draw, text, product, &hour.numbers());
         ask_rate(draw, text, &hour.earlier, &[100; SECONDS]);
+        ask_reached(draw, text, 100, &hour.earlier, &[100; SECONDS]);
     }
     ask(draw, text, hour_words(product)[0], &[&hour.head[..], &hour.bands, &hour.earlier[..1]].concat());
     ask(draw, text, "rate", &[count]);
+    ask(draw, text, "reached", &[100, count]);
 }
 
 /// Questions whose counts are right, one short, one over, or past the 8,192 that a question holds.
 pub fn counts(draw: &mut Draw) -> String {
     let mut text = String::new();
-    let few = [("ramp", 2), ("pair", 2), ("pair_frame", 3), ("dreg", 4), ("edreg", 11), ("sreg", 8)];
+    let few = [("ramp", 2), ("pair", 2), ("pair_frame", 3), ("reached", 1), ("dreg", 4), ("edreg", 11), ("sreg", 8)];
     let many = [("energy", 3606), ("bands", 8192), ("factor", 8192)];
     for (word, count) in few.into_iter().chain(many) {
         for near in count - 1..=count + 2 {

@@ -228,6 +228,51 @@ pub fn rate(earlier: &Earlier, scores: &[i64]) -> Answer<i64> {
     Ok(rate_of(&earlier.scores, scores))
 }
 
+// ---- "Did the hour reach 95?" (#106)
+
+pub struct Verdict {
+    pub reached: bool,
+    pub second: i64,
+    pub judged: i64,
+    pub read: i64,
+}
+
+/// How many scores of second t's window are read: "from its newest score back and left at the first score at or above the threshold".
+fn read_of(earlier: &[i64], scores: &[i64], threshold: i64, t: i64) -> i64 {
+    let first = if wrong(Fault::ReadPastFour) { t - 4 } else { t - 3 };
+    let back: Vec<_> = (first..=t).rev().filter_map(|second| known(earlier, scores, second)).collect();
+    let met = back.iter().position(|score| *score >= threshold);
+    match met {
+        Some(at) if !wrong(Fault::ReadToTheEnd) => at as i64 + 1,
+        _ => back.len() as i64,
+    }
+}
+
+/// "The first second whose whole window stays below the threshold": its rolling rate does.
+fn named(earlier: &[i64], scores: &[i64], threshold: i64) -> Option<i64> {
+    let least = if wrong(Fault::AtIsBelow) { threshold + 1 } else { threshold };
+    let mut below = (1..=scores.len() as i64).filter(|t| rolling(earlier, scores, *t) < least);
+    if wrong(Fault::LastForFirst) {
+        below.last()
+    } else {
+        below.next()
+    }
+}
+
+pub fn reached(earlier: &Earlier, scores: &[i64], threshold: i64) -> Answer<Verdict> {
+    let fit = SCORE.hold_all(&earlier.scores) && SCORE.hold_all(scores);
+    let order = if wrong(Fault::ThresholdBeforeScore) { [1, 5, 4] } else { [1, 4, 5] };
+    first_refused(&order, &[(1, !earlier.counts()), (4, !fit), (5, !THRESHOLD.hold(threshold))])?;
+    let found = named(&earlier.scores, scores, threshold);
+    let last = found.unwrap_or(scores.len() as i64);
+    let mut read = (1..=last).map(|t| read_of(&earlier.scores, scores, threshold, t)).sum();
+    if wrong(Fault::CheckCounted) {
+        read += (earlier.scores.len() + scores.len()) as i64;
+    }
+    let judged = if wrong(Fault::NamedNotJudged) && found.is_some() { last - 1 } else { last };
+    Ok(Verdict { reached: found.is_none(), second: found.unwrap_or(0), judged, read })
+}
+
 // ---- "The transfer ramp"
 
 /// Second n of a quarter, n from 1 to 900.

@@ -127,6 +127,28 @@ def rate(earlier, zeros):
     return "rate " + words(len(earlier), *earlier, *scores), words(0, min(model.rolling(scores, earlier)))
 
 
+# ---- whether an hour reached a threshold (document 02, #106)
+
+
+def reached(threshold, earlier, scores):
+    """The question, and its answer: every window is cut out, and looked at from its newest score back."""
+    run, read = [*earlier, *scores], 0
+    for second in range(1, 3601):
+        newest = len(earlier) + second
+        window = run[max(0, newest - 4) : newest][::-1]
+        met = [score >= threshold for score in window]
+        read += met.index(True) + 1 if any(met) else len(window)
+        if not any(met):
+            break
+    named = 0 if any(met) else second
+    return f"reached {threshold} " + words(len(earlier), *earlier, *scores), words(0, int(any(met)), named, second, read)
+
+
+def unjudged(refusal, numbers):
+    """A question whose numbers are refused, and its answer."""
+    return "reached " + numbers, words(refusal, 0, 0, 0, 0)
+
+
 with open(os.path.join(ROOT, "samples/hour"), "w") as out:
     out.write("# A dReg hour of 10,000 kW at 440 and 350 dollars a MW, with list S; a 0, for no scores of the hour before (or 3 and its last three); then a\n")
     out.write("# line a second: the power of second t in kW and the frequency of second t-1 in mHz.\n")
@@ -163,6 +185,26 @@ asked = [
     ("rate 101 " + "0 " * 3600, words(1, 0)),
     ("rate -1 " + "0 " * 3600, words(1, 0)),
     ("rate 3 100 256 100 " + "0 " * 3600, words(4, 0)),
+    # the request's figures: an hour of 100, one with three zeros and one with four, a threshold of 0
+    reached(95, [], [100] * 3600),
+    reached(95, [], [100, 0, 0, 0] + [100] * 3596),
+    reached(95, [], [100, 0, 0, 0, 0] + [100] * 3595),
+    reached(0, [], [0] * 3600),
+    # short windows and earlier scores; at the threshold and one below; the last second; the sample hour about its rate of 97
+    reached(1, [], [0] * 3600),
+    reached(95, [95, 0, 0], [0, 100] + [100] * 3598),
+    reached(95, [94, 94, 94], [94] + [100] * 3599),
+    reached(95, [95, 0, 0], [0, 0] + [100] * 3598),
+    reached(95, [], [95, 94, 94, 94] * 900),
+    reached(100, [0, 0, 100], [99, 99, 100, 99] * 899 + [99] * 4),
+    *(reached(threshold, [], scores) for threshold in (settled[1], settled[1] + 1)),
+    # 1, then 4, then 5; a threshold outside 0 to 255 is taken as 255
+    unjudged(1, "101 2 101 0 " + "0 " * 3600),
+    unjudged(1, "95 101 " + "0 " * 3600),
+    unjudged(1, "95 -1 " + "0 " * 3600),
+    unjudged(4, "101 0 " + "0 " * 3599 + "101"),
+    unjudged(4, "101 3 0 256 0 " + "0 " * 3600),
+    *(unjudged(5, f"{threshold} 0 " + "100 " * 3600) for threshold in (101, 256, -1)),
     ("bands 95 10 0 -10", "0"),
     ("bands", "5"),
     ("factor 94 " + words(*bands), words(0, 8)),
@@ -225,6 +267,7 @@ asked = [
 faults = [
     ("curve", "103 too few numbers"),
     ("rate 3 100 100", "103 too few numbers"),
+    ("reached 95 3 100", "103 too few numbers"),
     ("curve 1 2", "104 too many numbers"),
     ("pair 1", "103 too few numbers"),
     ("pair_frame 1 2 3 4", "104 too many numbers"),

@@ -27,27 +27,27 @@ module _ (threshold : ℕ) (window : List ℕ) where
   pub reading-none : Reading 0
   reading-none = record { stays = refl; count = omega arith }
 
+  -- what is read where the next score is not below, and where it is
+  read-met : (x : ℕ) (w : List ℕ) → threshold ≤ x → readIn threshold (x ∷ w) ≡ 1
+  read-met x w h = ap (λ b. 1 + pick b 0 (readIn threshold w)) (le-leb threshold x h)
+
+  read-below : (x : ℕ) (w : List ℕ) → x < threshold → readIn threshold (x ∷ w) ≡ 1 + readIn threshold w
+  read-below x w h = ap (λ b. 1 + pick b 0 (readIn threshold w)) (lt-leb threshold x h)
+
   module _ (k : ℕ) (r : Reading k) where
     -- one more that is below
     pub reading-more : k < length window → getD window k 0 < threshold → Reading (k + 1)
     reading-more l h =
-        let w = drop (k + 1) window in
         let s = rest window k 0 l in
-        let below = lt-ltb (getD window k 0) threshold h in
-        let over = lt-leb threshold (getD window k 0) h in
-        record {
-          stays = r .stays ∙ ap (staysBelow threshold) s ∙ rw below;
-          count = let one : readIn threshold (drop k window) ≡ 1 + readIn threshold w = ap (readIn threshold) s ∙ rw over in r .count ∙ omega arith;
-        }
+        let one = ap (readIn threshold) s ∙ read-below (getD window k 0) (drop (k + 1) window) h in
+        record { stays = r .stays ∙ ap (staysBelow threshold) s ∙ rw (lt-ltb (getD window k 0) threshold h); count = r .count ∙ omega arith }
 
     -- one that is not: the window is left there
     pub reading-met : k < length window → threshold ≤ getD window k 0 → (staysBelow threshold window ≡ false) × (readIn threshold window ≡ k + 1)
     reading-met l h =
         let s = rest window k 0 l in
-        let below = le-ltb (getD window k 0) threshold h in
-        let over = le-leb threshold (getD window k 0) h in
-        let one : readIn threshold (drop k window) ≡ 1 = ap (readIn threshold) s ∙ rw over in
-        (r .stays ∙ ap (staysBelow threshold) s ∙ rw below, r .count ∙ omega arith)
+        let one = ap (readIn threshold) s ∙ read-met (getD window k 0) (drop (k + 1) window) h in
+        (r .stays ∙ ap (staysBelow threshold) s ∙ rw (le-ltb (getD window k 0) threshold h), r .count ∙ omega arith)
 
     -- none is left
     pub reading-all : length window ≤ k → (staysBelow threshold window ≡ true) × (readIn threshold window ≡ k)

@@ -2,9 +2,10 @@
 mod Windows
 mod Judging
 mod First
-mod Seconds
+pub mod Seconds
 pub mod Answers
 mod Accepted
 mod Threshold
+mod Figures
 mod Determined
 mod RefusedKeeps

@@ -9,13 +9,15 @@ use native.Mathlib.Omega.{arith}
 use lib.Dec.{eqb, leb, ltb}
 use lib.ListN.{length, getD, List·getD-map}
 use borrow.Author.Tests.{eq-eqb, ne-eqb, le-leb, lt-leb, ltb-true, ltb-false}
-use Rattle.whole.proofs.Choice.{by-test}
+use Rattle.whole.proofs.Choice.{by-test, kept-any}
 use Rattle.units.specs.Limits.{secondsOfHour}
 use Rattle.rate.specs.Rolling.{largest, smallest, rolling}
 use Rattle.rate.proofs.Rates.{length-rolling, smallest-least, smallest-most}
-use Rattle.reached.specs.Reached.{hourWindows, namedSecond, secondsJudged, scoresRead}
+use Rattle.reached.specs.Reached.{hourWindows, namedSecond, secondsJudged, scoresRead, judgedRefusal, hourReached}
 use Rattle.reached.specs.Accepted.{windowAt, Reaches, FirstBelow}
+use Rattle.reached.specs.declared.Judged.{Judged}
 use Rattle.reached.proofs.Windows.{window-count, window-long}
+use Rattle.reached.proofs.Answers.{threshold-fits}
 use Rattle.reached.proofs.First.{First, none-below, first-below, first, not-both, largest-below, largest-reaches, read-least, read-most, sum-four}
 
 module _ (earlier scores : List ℕ) (threshold : ℕ) where
@@ -57,6 +59,13 @@ module _ (earlier scores : List ℕ) (threshold : ℕ) (long : length scores ≡
           let least = smallest-least (rolling earlier scores) i (omega (arith, length-rolling earlier scores)) in
           ne-eqb _ 0 (λ (z : namedSecond earlier scores threshold ≡ 0). absurd (omega arith)) ∙ sym (lt-leb threshold (smallest (rolling earlier scores)) (omega (arith, rolling-at i)))
 
+  named-within : namedSecond earlier scores threshold ≤ secondsOfHour
+  named-within = told named
+    where
+      told : Named earlier scores threshold → namedSecond earlier scores threshold ≤ secondsOfHour
+      told (no-second e each) = omega arith
+      told (the-second i e f) = omega (arith, f .within)
+
   -- how many are judged
   pub judged-within : (1 ≤ secondsJudged earlier scores threshold) × (secondsJudged earlier scores threshold ≤ secondsOfHour)
   judged-within = told named
@@ -73,6 +82,20 @@ module _ (earlier scores : List ℕ) (threshold : ℕ) (long : length scores ≡
       let h : k < length scores = omega (arith, judged-within .1) in
       let w = windowAt earlier scores k in
       (read-least threshold w (nonempty k h), omega (arith, read-most threshold w, window-long earlier scores k h)))
+
+-- whatever was handed in, the answer's numbers are small
+pub answer-within : (earlier scores : List ℕ) (threshold : ℕ) →
+    let a = hourReached earlier scores threshold in
+    (a .second ≤ secondsOfHour) × (a .judged ≤ secondsOfHour) × (a .read ≤ 4 * secondsOfHour)
+unfolding hourReached
+answer-within earlier scores threshold =
+    kept-any (λ (a : Judged). (a .second ≤ secondsOfHour) × (a .judged ≤ secondsOfHour) × (a .read ≤ 4 * secondsOfHour)) (judgedRefusal earlier scores threshold)
+    (λ e.
+    let long = threshold-fits earlier scores threshold e .scored .long in
+    let j = judged-within earlier scores threshold long in
+    let r = read-within earlier scores threshold long in
+    (omega (arith, named-within earlier scores threshold long), omega arith, omega arith))
+    (omega arith, omega arith, omega arith)
 
 -- there is one first second at most
 pub first-only : (earlier scores : List ℕ) (threshold i j : ℕ) → FirstBelow earlier scores threshold i → FirstBelow earlier scores threshold j → i ≡ j

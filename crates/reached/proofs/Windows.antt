@@ -27,10 +27,10 @@ as-many : (back xs : List ℕ) → length (windows back xs) ≡ length xs
 as-many back [] = refl
 as-many back (x ∷ xs) = ap suc (as-many (x ∷ back) xs)
 
-long : (back xs : List ℕ) (i : ℕ) → i < length xs → length (getD (windows back xs) i []) ≡ min 4 (length back + i + 1)
-long back [] i h = absurd (not-suc-le-zero h)
-long back (x ∷ xs) zero h = length-take 4 (x ∷ back) ∙ omega arith
-long back (x ∷ xs) (suc i) h = long (x ∷ back) xs i (omega arith) ∙ omega arith
+long : (back xs : List ℕ) (i n : ℕ) → i < length xs → length back ≡ n → length (getD (windows back xs) i []) ≡ min 4 (n + i + 1)
+long back [] i n h e = absurd (not-suc-le-zero h)
+long back (x ∷ xs) zero n h e = length-take 4 (x ∷ back) ∙ omega arith
+long back (x ∷ xs) (suc i) n h e = long (x ∷ back) xs i (suc n) (omega arith) (omega arith) ∙ omega arith
 
 back-at : (back xs : List ℕ) (i k m : ℕ) → i < length xs → k < 4 → m + k ≡ length back + i → getD (getD (windows back xs) i []) k 0 ≡ getD (reverseAux back xs) m 0
 back-at back [] i k m h f e = absurd (not-suc-le-zero h)
@@ -42,10 +42,10 @@ back-at back (x ∷ xs) (suc i) k m h f e = back-at (x ∷ back) xs i k m (omega
 
 module _ (earlier scores : List ℕ) where
   pub window-count : length (hourWindows earlier scores) ≡ length scores
-  window-count = as-many (reverse earlier) scores
+  window-count = as-many _ scores
 
   pub window-long : (i : ℕ) → i < length scores → length (getD (hourWindows earlier scores) i []) ≡ min 4 (length earlier + i + 1)
-  window-long i h = long (reverse earlier) scores i h ∙ ap (λ n. min 4 (n + i + 1)) (length-reverse earlier)
+  window-long i h = long _ scores i (length earlier) h (omega (arith, length-reverse earlier))
 
   joined : reverseAux (reverse earlier) scores ≡ earlier ++ scores
   joined = reverseAux-eq (reverse earlier) scores ∙ ap (λ l. l ++ scores) (reverse-reverse earlier)

@@ -1,13 +1,13 @@
 -- Bands and scores that are refused whatever they say, so that the first four earlier scores stand for all; and a lookup that asks the bands alone. By cases.
 -- Assumes nothing.
 use Prim.Native.Nat.{ℕ, _≤_, _<_, _%_}
-use mathlib.Core.Path.{_≡_, refl, sym, _∙_}
+use mathlib.Core.Path.{_≡_, refl, sym, ap, _∙_}
 use mathlib.Core.Bool.{Bool, true, false, _&&_, and-false}
 use mathlib.Core.List.{List, [], _∷_}
 use native.Mathlib.Omega.{arith}
 use lib.Dec.{eqb}
 use lib.IntN.{ℤ, pos}
-use lib.ListN.{length}
+use lib.ListN.{length, replicate, length-replicate}
 use borrow.Author.Tests.{ne-eqb}
 use Rattle.whole.specs.Choice.{inOrder}
 use Rattle.whole.proofs.Choice.{by-test}
@@ -15,14 +15,15 @@ use Rattle.units.specs.Limits.{isPattern, earlierScores, secondsOfHour}
 use Rattle.units.specs.Refusals.{wrongLength, badBands}
 use Rattle.rate.specs.Rolling.{rateLengthsFit, scoresRefusal, noRate, hourlyRate}
 use Rattle.rate.proofs.Rates.{more-unfit}
+use Rattle.reached.specs.Reached.{judgedRefusal, notJudged, hourReached}
 use Rattle.bands.specs.Bands.{bandsFit, factorRefusal, withFactor, factorAnswer}
 use Rattle.bands.proofs.Laws.{bands-fit}
-use Rattle.numbers.specs.Numbers.{number, scoresIn, column}
+use Rattle.numbers.specs.Numbers.{number, asBytes, scoresIn, column}
 use Rattle.numbers.specs.Inner.{firstFour, taken}
 use Rattle.numbers.proofs.Bytes.{four-same}
 use Rattle.words.specs.declared.Rule.{Rule}
-use Rattle.words.specs.declared.Rule.the-variants.{Kilowatts, Curve, Score, Rate, Bands, Factor, Fee, Quality, Energy, Loss, Pair}
-use Rattle.rules.specs.Rules.{pairs, arePairs, factorIn, kilowattsReply, curveReply, scoreReply, rateReply, bandsReply, factorReply, feeReply, qualityReply, energyReply, lossReply, pairReply, ruleReply}
+use Rattle.words.specs.declared.Rule.the-variants.{Kilowatts, Curve, Score, Rate, Reached, Bands, Factor, Fee, Quality, Energy, Loss, Pair}
+use Rattle.rules.specs.Rules.{pairs, arePairs, factorIn, kilowattsReply, curveReply, scoreReply, rateReply, reachedReply, bandsReply, factorReply, feeReply, qualityReply, energyReply, lossReply, pairReply, ruleReply}
 
 -- more than 16 records are refused, whatever they say
 pub too-many : (thresholds factors : List ℤ) (rate : ℕ) → 16 < length thresholds → factorAnswer thresholds factors rate ≡ record { refusal = 5; factor = pos 0 }
@@ -39,20 +40,29 @@ pub by-bands : (n : List ℤ) → factorIn n 0 .refusal ≡ inOrder ((arePairs n
 unfolding factorIn
 by-bands n = by-test (arePairs n) (λ (t : arePairs n ≡ true). rw t (by-columns _ _)) (λ (t : arePairs n ≡ false). rw t)
 
--- scores of another number are refused, and so are more than three earlier ones
-lengths-refused : (earlier scores : List ℕ) → rateLengthsFit (length earlier) (length scores) ≡ false → hourlyRate earlier scores ≡ noRate wrongLength
+-- an answer that refuses scores of the wrong number: it refuses another number of seconds, and more than three earlier scores, so that the first four of these stand for all
+module _ {A : Type 0} (answer : List ℕ → List ℕ → A) (bare : A) (unfit : (earlier scores : List ℕ) → rateLengthsFit (length earlier) (length scores) ≡ false → answer earlier scores ≡ bare) where
+  pub wrong-count : (earlier scores : List ℕ) → (length scores ≡ secondsOfHour → ⊥) → answer earlier scores ≡ bare
+  wrong-count earlier scores h = unfit earlier scores (rw (ne-eqb (length scores) secondsOfHour h))
+
+  wrong-earlier : (earlier scores : List ℕ) → earlierScores < length earlier → answer earlier scores ≡ bare
+  wrong-earlier earlier scores h = unfit earlier scores (rw (more-unfit (length earlier) h) (and-false (eqb (length scores) secondsOfHour)))
+
+  pub four-stand : (scores : List ℕ) (n : List ℤ) → answer (taken (firstFour n)) scores ≡ answer (scoresIn n) scores
+  four-stand scores = four-same (λ (l : List ℕ). answer l scores) (λ a b h k. wrong-earlier a scores h ∙ sym (wrong-earlier b scores k))
+
+-- the scores of a question as bytes; over any number, so that no list is written out
+pub scores-filled : (tail : List ℤ) (m : ℕ) (scores : List ℕ) → length tail ≡ m → scores ≡ asBytes tail (length {A = ℕ} (replicate m 0)) → scores ≡ scoresIn tail
+scores-filled tail m scores l e = e ∙ ap (asBytes tail) (length-replicate m 0 ∙ sym l)
+
+-- so the rate, and whether an hour reached a threshold
+pub rate-unfit : (earlier scores : List ℕ) → rateLengthsFit (length earlier) (length scores) ≡ false → hourlyRate earlier scores ≡ noRate wrongLength
 unfolding hourlyRate scoresRefusal
-lengths-refused earlier scores t = rw t
+rate-unfit earlier scores t = rw t
 
-pub wrong-count : (earlier scores : List ℕ) → (length scores ≡ secondsOfHour → ⊥) → hourlyRate earlier scores ≡ noRate wrongLength
-wrong-count earlier scores h = lengths-refused earlier scores (rw (ne-eqb (length scores) secondsOfHour h))
-
-wrong-earlier : (earlier scores : List ℕ) → earlierScores < length earlier → hourlyRate earlier scores ≡ noRate wrongLength
-wrong-earlier earlier scores h = lengths-refused earlier scores (rw (more-unfit (length earlier) h) (and-false (eqb (length scores) secondsOfHour)))
-
--- so the first four of the earlier scores stand for all
-pub four-rated : (scores : List ℕ) (n : List ℤ) → hourlyRate (taken (firstFour n)) scores ≡ hourlyRate (scoresIn n) scores
-four-rated scores = four-same (λ (l : List ℕ). hourlyRate l scores) (λ a b h k. wrong-earlier a scores h ∙ sym (wrong-earlier b scores k))
+pub reached-unfit : (threshold : ℕ) (earlier scores : List ℕ) → rateLengthsFit (length earlier) (length scores) ≡ false → hourReached earlier scores threshold ≡ notJudged wrongLength
+unfolding hourReached judgedRefusal
+reached-unfit threshold earlier scores t = rw t
 
 -- numbers that are pairs, by what is left of their count
 pub pairs-by : (n : List ℤ) → length n % 2 ≡ 0 → arePairs n ≡ true
@@ -63,11 +73,12 @@ no-pairs n h = ne-eqb (length n % 2) 0 h
 
 -- an answer has at most twelve fields
 pub rule-few : (rule : Rule) (n : List ℤ) (counted : Bool) (earlier t : List ℤ) → length (ruleReply rule n counted earlier t .fields) ≤ 12
-unfolding kilowattsReply curveReply scoreReply rateReply bandsReply factorReply feeReply qualityReply energyReply lossReply pairReply
+unfolding kilowattsReply curveReply scoreReply rateReply reachedReply bandsReply factorReply feeReply qualityReply energyReply lossReply pairReply
 rule-few Kilowatts n counted earlier t = omega arith
 rule-few Curve n counted earlier t = omega arith
 rule-few Score n counted earlier t = omega arith
 rule-few Rate n counted earlier t = omega arith
+rule-few Reached n counted earlier t = omega arith
 rule-few Bands n counted earlier t = omega arith
 rule-few Factor n counted earlier t = omega arith
 rule-few Fee n counted earlier t = omega arith

@@ -15,6 +15,7 @@ use Rattle.units.specs.Limits.{isFrequency, isPattern}
 use Rattle.curve.specs.Curve.{curveAt}
 use Rattle.score.specs.Score.{secondRefusal, secondScore}
 use Rattle.rate.specs.Rolling.{scoresRefusal, hourlyRate}
+use Rattle.reached.specs.Reached.{judgedRefusal, hourReached}
 use Rattle.bands.specs.Bands as bands
 use Rattle.bands.specs.Bands.{factorRefusal, factorAnswer}
 use Rattle.fees.specs.Fees.{chargeRefusal, feeAnswer, qualityRefusal, qualityAnswer, energyRefusal, energyAnswer, chargeOf, noCharge}
@@ -25,8 +26,8 @@ use Rattle.words.specs.Replies.{Reply, reply}
 use Rattle.words.specs.Inner.{boxed}
 use Rattle.words.specs.declared.Few.{Few}
 use Rattle.words.specs.declared.Rule.{Rule}
-use Rattle.words.specs.declared.Rule.the-variants.{Kilowatts, Curve, Score, Rate, Bands, Factor, Fee, Quality, Energy, Loss, Pair}
-use Rattle.rules.specs.Rules.{pairs, arePairs, factorIn, kilowattsReply, curveReply, scoreReply, rateReply, bandsReply, factorReply, feeReply, qualityReply, energyReply, lossReply, pairReply, ruleReply}
+use Rattle.words.specs.declared.Rule.the-variants.{Kilowatts, Curve, Score, Rate, Reached, Bands, Factor, Fee, Quality, Energy, Loss, Pair}
+use Rattle.rules.specs.Rules.{pairs, arePairs, factorIn, kilowattsReply, curveReply, scoreReply, rateReply, reachedReply, bandsReply, factorReply, feeReply, qualityReply, energyReply, lossReply, pairReply, ruleReply}
 use Rattle.rules.specs.Inner.{fieldCount}
 use Rattle.rules.proofs.answer.Reads as answer
 use Rattle.rules.proofs.answer.Kinds as answer-kinds
@@ -49,12 +50,14 @@ converted n e f =
 
 refused : (rule : Rule) (n : List ℤ) (counted : Bool) (earlier t : List ℤ) → (ruleReply rule n counted earlier t .refusal ≡ 0 → ⊥)
     → ruleReply rule n counted earlier t ≡ zeros rule (ruleReply rule n counted earlier t .refusal)
-unfolding kilowattsReply curveReply scoreReply rateReply bandsReply factorReply factorIn feeReply qualityReply energyReply lossReply pairReply inKilowatts curveAt secondScore hourlyRate factorAnswer feeAnswer qualityAnswer energyAnswer lossAnswer added bands.withFactor chargeOf noCharge
+unfolding kilowattsReply curveReply scoreReply rateReply reachedReply bandsReply factorReply factorIn feeReply qualityReply energyReply lossReply pairReply inKilowatts curveAt secondScore hourlyRate hourReached factorAnswer feeAnswer qualityAnswer energyAnswer lossAnswer added bands.withFactor chargeOf noCharge
 refused Kilowatts n counted earlier t f = by-test (inRange (minus 100) (pos 100) (number n 0)) (λ e. absurd (f (rw e))) (λ e. rw e)
 refused Curve n counted earlier t f = by-test (isFrequency (number n 0)) (λ e. absurd (f (rw e))) (λ e. rw e)
 refused Score n counted earlier t f = by-test (eqb (secondRefusal (kilowatts (number n 0)) (kilowatts (number n 1)) (kilowatts (number n 2)) (millihertz (number n 3))) 0) (λ e. absurd (f (rw e))) (λ e. rw e)
 refused Rate n true earlier t f = by-test (eqb (scoresRefusal (scoresIn earlier) (scoresIn t)) 0) (λ e. absurd (f (rw e))) (λ e. rw e)
 refused Rate n false earlier t f = refl
+refused Reached n true earlier t f = by-test (eqb (judgedRefusal (scoresIn earlier) (scoresIn t) (byteOf (number n 0))) 0) (λ e. absurd (f (rw e))) (λ e. rw e)
+refused Reached n false earlier t f = refl
 refused Bands n counted earlier t f = refl
 refused Factor n counted earlier t f = by-test (arePairs t) (λ e. looked-up n t e f) (λ e. rw e)
 refused Fee n counted earlier t f = by-test (eqb (chargeRefusal (number n 0) (kilowatts (number n 1))) 0) (λ e. absurd (f (rw e))) (λ e. rw e)

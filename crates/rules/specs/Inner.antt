@@ -5,7 +5,7 @@ use lib.IntN.{ℤ, pos}
 use lib.ListN.{replicate}
 use Rattle.words.specs.declared.Few.{Few}
 use Rattle.words.specs.declared.Rule.{Rule}
-use Rattle.words.specs.declared.Rule.the-variants.{Kilowatts, Curve, Score, Rate, Bands, Factor, Fee, Quality, Energy, Loss, Pair}
+use Rattle.words.specs.declared.Rule.the-variants.{Kilowatts, Curve, Score, Rate, Reached, Bands, Factor, Fee, Quality, Energy, Loss, Pair}
 
 -- how many fields its answer has
 abbrev pub fieldCount : Rule → ℕ
@@ -13,6 +13,7 @@ fieldCount Kilowatts = 1
 fieldCount Curve = 2
 fieldCount Score = 1
 fieldCount Rate = 1
+fieldCount Reached = 4
 fieldCount Bands = 0
 fieldCount Factor = 1
 fieldCount Fee = 1

@@ -14,6 +14,8 @@ use Rattle.curve.specs.Curve.{curveAt}
 use Rattle.score.specs.Score.{secondScore}
 use Rattle.rate.specs.Rolling.{hourlyRate, noRate}
 use Rattle.rate.specs.declared.Rated.{Rated}
+use Rattle.reached.specs.Reached.{hourReached, notJudged}
+use Rattle.reached.specs.declared.Judged.{Judged}
 use Rattle.bands.specs.Bands.{bandsFit, factorAnswer}
 use Rattle.bands.specs.declared.Factored.{Factored}
 use Rattle.fees.specs.Fees.{feeAnswer, qualityAnswer, energyAnswer}
@@ -23,7 +25,7 @@ use Rattle.pair.specs.Pair.{roundedBits}
 use Rattle.numbers.specs.Numbers.{number, byteOf, scoresIn, column}
 use Rattle.words.specs.Replies.{Reply, reply}
 use Rattle.words.specs.declared.Rule.{Rule}
-use Rattle.words.specs.declared.Rule.the-variants.{Kilowatts, Curve, Score, Rate, Bands, Factor, Fee, Quality, Energy, Loss, Pair}
+use Rattle.words.specs.declared.Rule.the-variants.{Kilowatts, Curve, Score, Rate, Reached, Bands, Factor, Fee, Quality, Energy, Loss, Pair}
 
 -- MEGAWATTS: refusal, kilowatts
 unfoldable pub kilowattsReply : List ℤ → Reply
@@ -44,6 +46,16 @@ rateAsked counted earlier t = pick counted (hourlyRate (scoresIn earlier) (score
 
 unfoldable pub rateReply : Bool → List ℤ → List ℤ → Reply
 rateReply counted earlier t = let a = rateAsked counted earlier t in reply (a .refusal) (pos (a .rate) ∷ [])
+
+-- THRESHOLD E, then E earlier scores, then 3,600 scores: refusal, reached (1 yes, 0 no), second, seconds judged, scores read (document 02, #106). E as above
+abbrev pub reachedAsked : List ℤ → Bool → List ℤ → List ℤ → Judged
+reachedAsked n counted earlier t = pick counted (hourReached (scoresIn earlier) (scoresIn t) (byteOf (number n 0))) (notJudged wrongLength)
+
+abbrev pub judgedReply : Judged → Reply
+judgedReply a = reply (a .refusal) (pos (pick (a .reached) 1 0) ∷ pos (a .second) ∷ pos (a .judged) ∷ pos (a .read) ∷ [])
+
+unfoldable pub reachedReply : List ℤ → Bool → List ℤ → List ℤ → Reply
+reachedReply n counted earlier t = judgedReply (reachedAsked n counted earlier t)
 
 -- how many pairs there are
 abbrev pub pairs : List ℤ → ℕ
@@ -102,6 +114,7 @@ ruleReply Kilowatts n counted earlier t = kilowattsReply n
 ruleReply Curve n counted earlier t = curveReply n
 ruleReply Score n counted earlier t = scoreReply n
 ruleReply Rate n counted earlier t = rateReply counted earlier t
+ruleReply Reached n counted earlier t = reachedReply n counted earlier t
 ruleReply Bands n counted earlier t = bandsReply t
 ruleReply Factor n counted earlier t = factorReply n t
 ruleReply Fee n counted earlier t = feeReply n

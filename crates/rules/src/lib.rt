@@ -7,8 +7,10 @@ ghost use lib.ListN.{length};
 ghost use Rattle.units.specs.Limits.{secondsOfHour};
 ghost use Rattle.bands.specs.Bands.{factorAnswer};
 ghost use Rattle.words.specs.Inner.{boxed};
-ghost use Rattle.numbers.specs.Numbers.{column};
-ghost use Rattle.rules.specs.Rules.{factorIn, kilowattsReply, curveReply, scoreReply, rateReply, bandsReply};
+ghost use Rattle.numbers.specs.Numbers.{column, scoresIn};
+ghost use Rattle.units.specs.Refusals.{wrongLength};
+ghost use Rattle.reached.specs.Reached.{hourReached, notJudged};
+ghost use Rattle.rules.specs.Rules.{factorIn, kilowattsReply, curveReply, scoreReply, rateReply, reachedReply, judgedReply, bandsReply};
 ghost use Rattle.rules.specs.Inner.{few};
 ghost use Rattle.rules.specs.Rules.{factorReply, chargeReply, feeReply, qualityReply, energyReply, lossReply, pairBitsReply, pairReply, ruleReply};
 use bands::Factored;
@@ -33,6 +35,7 @@ pub fn answer(rule: Rule, head: [i64; 12], counted: bool, earlier: &[i64], tail:
         Rule::Curve => curve(head),
         Rule::Score => score(head),
         Rule::Rate => rate(counted, earlier, tail),
+        Rule::Reached => reached(head, counted, earlier, tail),
         Rule::Bands => bands(tail),
         Rule::Factor => factor(head, tail),
         Rule::Fee => fee(head),
@@ -105,6 +108,48 @@ fn rated(earlier: &[i64], tail: &[i64]) -> Few
     let first = before.scores;
     let rated = rate::hourly_rate(&first[..n], &scores);
     few(rated.refusal, 1, rated.rate as i64, 0, 0)
+}
+
+fn reached(head: [i64; 12], counted: bool, earlier: &[i64], tail: &[i64]) -> Few
+    ensures { λ r. ⌜ r ≡ boxed (reachedReply head counted (now (earlier .entry)) (now (tail .entry))) ⌝ }
+{
+    if !(counted & (tail.len() == limits::SECONDS)) {
+        return unjudged();
+    }
+    judged(numbers::byte_of(head[0]), earlier, tail)
+}
+
+// The answer to one that has not as many numbers as it takes.
+fn unjudged() -> Few
+    ensures { λ r. ⌜ r ≡ boxed (judgedReply (notJudged wrongLength)) ⌝ }
+{
+    Few {
+        refusal: refusals::WRONG_LENGTH,
+        count: 4,
+        values: [0, 0, 0, 0, 0, 0, 0, 0, 0, 0, 0, 0],
+    }
+}
+
+// Whether 3,600 scores, after the earlier ones, reached a threshold.
+fn judged(threshold: u8, earlier: &[i64], tail: &[i64]) -> Few
+    requires { ⌜ length (now tail) ≡ secondsOfHour ⌝ }
+    ensures { λ r. ⌜ r ≡ boxed (judgedReply (hourReached (scoresIn (now (earlier .entry))) (scoresIn (now (tail .entry))) threshold)) ⌝ }
+{
+    let mut scores = [0u8; limits::SECONDS];
+    numbers::fill_bytes(tail, &mut scores);
+    let before = numbers::first_four(earlier);
+    let n = before.count;
+    let first = before.scores;
+    let judged = reached::reached(&first[..n], &scores, threshold);
+    let reached = judged.reached as i64;
+    let second = judged.second as i64;
+    let seconds = judged.judged as i64;
+    let read = judged.read as i64;
+    Few {
+        refusal: judged.refusal,
+        count: 4,
+        values: [reached, second, seconds, read, 0, 0, 0, 0, 0, 0, 0, 0],
+    }
 }
 
 fn bands(tail: &[i64]) -> Few

@@ -8,7 +8,7 @@ use Rattle.units.specs.Limits.{secondsOfHour}
 use Rattle.words.specs.Faults.{notQuestion}
 use Rattle.words.specs.Words.{wordOf}
 use Rattle.words.specs.declared.Question.{Question}
-use Rattle.words.specs.declared.Rule.the-variants.{Kilowatts, Curve, Score, Rate, Bands, Factor, Fee, Quality, Energy, Loss, Pair}
+use Rattle.words.specs.declared.Rule.the-variants.{Kilowatts, Curve, Score, Rate, Reached, Bands, Factor, Fee, Quality, Energy, Loss, Pair}
 use Rattle.words.specs.declared.Hour.the-variants.{Dreg, Edreg, Sreg}
 use Rattle.words.specs.declared.Series.the-variants.{Ramp, DregScores, EdregScores, SregScores}
 use Rattle.words.specs.declared.Framing.the-variants.{DregFrame, EdregFrame, SregFrame, Frame, LossFrames}
@@ -62,6 +62,7 @@ table =
     ∷ entry "score" (asks.Rule Score) (singles 4)
     ∷ entry "ramp" (asks.Series Ramp) (singles 2)
     ∷ entry "rate" (asks.Rule Rate) (scoresShape 0)
+    ∷ entry "reached" (asks.Rule Reached) (scoresShape 1)
     ∷ entry "bands" (asks.Rule Bands) (singlesGroups 0 2)
     ∷ entry "factor" (asks.Rule Factor) (singlesGroups 1 2)
     ∷ entry "fee" (asks.Rule Fee) (singles 2)

@@ -9,6 +9,8 @@ pub(crate) const RAMP: u64 = 591_280;
 
 pub(crate) const RATE: u64 = 591_493;
 
+pub(crate) const REACHED: u64 = 19_496_280_228;
+
 pub(crate) const BANDS: u64 = 2_144_403;
 
 pub(crate) const FACTOR: u64 = 202_494_450;

@@ -3,10 +3,12 @@ use mathlib.Core.Path.{_≡_, sym, _∙_}
 use mathlib.Core.Bool.{true, false}
 use lib.ListN.{length}
 use borrow.Author.Tests.{not-true, not-false}
+use Rattle.units.specs.Refusals.{wrongLength}
+use Rattle.rate.specs.Rolling.{noRate, hourlyRate}
 use Rattle.numbers.specs.Numbers.{scoresIn}
 use Rattle.numbers.proofs.Bytes.{length-bytes}
 use Rattle.rules.specs.Rules.{rateReply}
-use Rattle.rules.proofs.Laws.{wrong-count}
+use Rattle.rules.proofs.Laws.{wrong-count, rate-unfit}
 use borrow.Author.Needs.{needs}
 use Rattle.rules.proofs.rate.Statement.{statement}
 use Rattle.rules.proofs.rate.Tie as tie
@@ -34,7 +36,7 @@ returns-2 c =
     let s = c .before .before .before in
     let t = s .args .tail .now in
     let long = sym (length-bytes t (length t)) in
-    rw (counted (c .before .before), wrong-count (scoresIn (s .args .earlier .now)) (scoresIn t) (λ e. c .before .if2 .taken (long ∙ e))) (c .few2 .ensures)
+    rw (counted (c .before .before), wrong-count hourlyRate (noRate wrongLength) rate-unfit (scoresIn (s .args .earlier .now)) (scoresIn t) (λ e. c .before .if2 .taken (long ∙ e))) (c .few2 .ensures)
 
 rated-requires : tie.Need-rated-requires
 rated-requires c κs = search needs

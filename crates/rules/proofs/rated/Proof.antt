@@ -1,18 +1,15 @@
 -- `rules::rated` meets its contract: the library's answer, field by field; the first four of the earlier scores stand for all. Assumes nothing.
-use Prim.Native.Nat.{ℕ}
 use native.Mathlib.Omega.{arith}
-use mathlib.Core.Path.{_≡_, sym, ap, ap₂, _∙_}
-use mathlib.Core.List.{List}
-use lib.IntN.{ℤ}
-use lib.ListN.{length, replicate, length-replicate}
+use mathlib.Core.Path.{ap, ap₂, _∙_}
 use mir.Facts.{toZ-ofZ}
+use Rattle.units.specs.Refusals.{wrongLength}
 use Rattle.units.specs.Limits.{secondsOfHour}
-use Rattle.rate.specs.Rolling.{hourlyRate}
-use Rattle.numbers.specs.Numbers.{asBytes, scoresIn}
+use Rattle.rate.specs.Rolling.{noRate, hourlyRate}
+use Rattle.numbers.specs.Numbers.{scoresIn}
 use Rattle.numbers.specs.Inner.{taken}
 use Rattle.numbers.proofs.Bytes.{Lent, lent}
 use Rattle.rules.specs.Rules.{rateReply}
-use Rattle.rules.proofs.Laws.{four-rated}
+use Rattle.rules.proofs.Laws.{scores-filled, four-stand, rate-unfit}
 use borrow.Author.Needs.{needs}
 use Rattle.rules.proofs.rated.Statement.{statement}
 use Rattle.rules.proofs.rated.Tie as tie
@@ -48,10 +45,6 @@ cast-few c = search needs
 few-requires : tie.Need-few-requires
 few-requires c κs = search needs
 
--- over any number, so that no list is written out
-filled : (tail : List ℤ) (m : ℕ) (scores : List ℕ) → length tail ≡ m → scores ≡ asBytes tail (length {A = ℕ} (replicate m 0)) → scores ≡ scoresIn tail
-filled tail m scores l e = e ∙ ap (asBytes tail) (length-replicate m 0 ∙ sym l)
-
 returns : tie.Need-returns
 unfolding rateReply
 returns c =
@@ -59,8 +52,8 @@ returns c =
     let e = r .before .before .before .before in
     let f = e .before .before in
     let a = f .before .before .args in
-    let scores = filled (a .tail .now) secondsOfHour _ (f .before .before .pre) (f .fill-bytes .ensures) in
-    let rated = r .hourly-rate .ensures ∙ ap₂ hourlyRate (ap taken (e .first-four .ensures)) scores ∙ four-rated (scoresIn (a .tail .now)) (a .earlier .now) in
+    let scores = scores-filled (a .tail .now) secondsOfHour _ (f .before .before .pre) (f .fill-bytes .ensures) in
+    let rated = r .hourly-rate .ensures ∙ ap₂ hourlyRate (ap taken (e .first-four .ensures)) scores ∙ four-stand hourlyRate (noRate wrongLength) rate-unfit (scoresIn (a .tail .now)) (a .earlier .now) in
     rw (c .few .ensures, toZ-ofZ (cast-few (c .before)), rated)
 
 pub rated-spec : {M : Type 1} → statement M

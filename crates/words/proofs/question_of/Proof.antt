@@ -22,6 +22,9 @@ singles-requires-4 c κs = search needs
 scored-requires : tie.Need-scored-requires
 scored-requires c κs = search needs
 
+scored-requires-2 : tie.Need-scored-requires-2
+scored-requires-2 c κs = search needs
+
 groups-requires : tie.Need-groups-requires
 groups-requires c κs = search needs
 
@@ -101,83 +104,87 @@ returns-5 c = rw (c .before .match .keys5) (c .scored .ensures)
 
 returns-6 : tie.Need-returns-6
 unfolding questionOf letterOf
-returns-6 c = rw (c .before .match .keys6) (c .groups .ensures)
+returns-6 c = rw (c .before .match .keys6) (c .scored2 .ensures)
 
 returns-7 : tie.Need-returns-7
 unfolding questionOf letterOf
-returns-7 c = rw (c .before .match .keys7) (c .groups2 .ensures)
+returns-7 c = rw (c .before .match .keys7) (c .groups .ensures)
 
 returns-8 : tie.Need-returns-8
 unfolding questionOf letterOf
-returns-8 c = rw (c .before .match .keys8) (c .singles5 .ensures)
+returns-8 c = rw (c .before .match .keys8) (c .groups2 .ensures)
 
 returns-9 : tie.Need-returns-9
 unfolding questionOf letterOf
-returns-9 c = rw (c .before .match .keys9) (c .singles6 .ensures)
+returns-9 c = rw (c .before .match .keys9) (c .singles5 .ensures)
 
 returns-10 : tie.Need-returns-10
 unfolding questionOf letterOf
-returns-10 c = rw (c .before .match .keys10) (c .seconds .ensures)
+returns-10 c = rw (c .before .match .keys10) (c .singles6 .ensures)
 
 returns-11 : tie.Need-returns-11
 unfolding questionOf letterOf
-returns-11 c = rw (c .before .match .keys11) (c .singles7 .ensures)
+returns-11 c = rw (c .before .match .keys11) (c .seconds .ensures)
 
 returns-12 : tie.Need-returns-12
 unfolding questionOf letterOf
-returns-12 c = rw (c .before .match .keys12) (c .singles8 .ensures)
+returns-12 c = rw (c .before .match .keys12) (c .singles7 .ensures)
 
 returns-13 : tie.Need-returns-13
 unfolding questionOf letterOf
-returns-13 c = rw (c .before .match .keys13) (c .hourly .ensures)
+returns-13 c = rw (c .before .match .keys13) (c .singles8 .ensures)
 
 returns-14 : tie.Need-returns-14
 unfolding questionOf letterOf
-returns-14 c = rw (c .before .match .keys14) (c .hourly2 .ensures)
+returns-14 c = rw (c .before .match .keys14) (c .hourly .ensures)
 
 returns-15 : tie.Need-returns-15
 unfolding questionOf letterOf
-returns-15 c = rw (c .before .match .keys15) (c .stated .ensures)
+returns-15 c = rw (c .before .match .keys15) (c .hourly2 .ensures)
 
 returns-16 : tie.Need-returns-16
 unfolding questionOf letterOf
-returns-16 c = rw (c .before .match .keys16) (c .hourly3 .ensures)
+returns-16 c = rw (c .before .match .keys16) (c .stated .ensures)
 
 returns-17 : tie.Need-returns-17
 unfolding questionOf letterOf
-returns-17 c = rw (c .before .match .keys17) (c .hourly4 .ensures)
+returns-17 c = rw (c .before .match .keys17) (c .hourly3 .ensures)
 
 returns-18 : tie.Need-returns-18
 unfolding questionOf letterOf
-returns-18 c = rw (c .before .match .keys18) (c .stated2 .ensures)
+returns-18 c = rw (c .before .match .keys18) (c .hourly4 .ensures)
 
 returns-19 : tie.Need-returns-19
 unfolding questionOf letterOf
-returns-19 c = rw (c .before .match .keys19) (c .hourly5 .ensures)
+returns-19 c = rw (c .before .match .keys19) (c .stated2 .ensures)
 
 returns-20 : tie.Need-returns-20
 unfolding questionOf letterOf
-returns-20 c = rw (c .before .match .keys20) (c .hourly6 .ensures)
+returns-20 c = rw (c .before .match .keys20) (c .hourly5 .ensures)
 
 returns-21 : tie.Need-returns-21
 unfolding questionOf letterOf
-returns-21 c = rw (c .before .match .keys21) (c .stated3 .ensures)
+returns-21 c = rw (c .before .match .keys21) (c .hourly6 .ensures)
 
 returns-22 : tie.Need-returns-22
 unfolding questionOf letterOf
-returns-22 c = rw (c .before .match .keys22) (c .singles9 .ensures)
+returns-22 c = rw (c .before .match .keys22) (c .stated3 .ensures)
 
 returns-23 : tie.Need-returns-23
 unfolding questionOf letterOf
-returns-23 c = rw (c .before .match .keys23) (c .singles10 .ensures)
+returns-23 c = rw (c .before .match .keys23) (c .singles9 .ensures)
 
 returns-24 : tie.Need-returns-24
 unfolding questionOf letterOf
-returns-24 c = rw (c .before .match .keys24) (c .singles11 .ensures)
+returns-24 c = rw (c .before .match .keys24) (c .singles10 .ensures)
 
 returns-25 : tie.Need-returns-25
 unfolding questionOf letterOf
-returns-25 c = sym (nowhere (c .before .args .code) Unit table (c .match .rest) .1)
+returns-25 c = rw (c .before .match .keys25) (c .singles11 .ensures)
+
+returns-26 : tie.Need-returns-26
+unfolding questionOf letterOf
+returns-26 c = sym (nowhere (c .before .args .code) Unit table (c .match .rest) .1)
 
 pub question-of-spec : {M : Type 1} → statement M
 question-of-spec =
@@ -188,6 +195,7 @@ question-of-spec =
     singles-requires-3
     singles-requires-4
     scored-requires
+    scored-requires-2
     groups-requires
     groups-requires-2
     singles-requires-5
@@ -231,4 +239,5 @@ question-of-spec =
     returns-22
     returns-23
     returns-24
-    returns-25)
+    returns-25
+    returns-26)
