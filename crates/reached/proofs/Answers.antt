@@ -1,18 +1,16 @@
 -- What an answer is: refused, its number alone; else what the definitions say of scores and a threshold that fit. By the tests of the refusal. Assumes nothing.
-use Prim.Native.Nat.{ℕ, _≤_}
-use mathlib.Core.Path.{_≡_, refl, sym, ap, _∙_}
+use Prim.Native.Nat.{ℕ}
+use mathlib.Core.Path.{_≡_, refl}
 use mathlib.Core.Bool.{Bool, true, _&&_}
 use mathlib.Core.List.{List, [], _∷_}
-use native.Mathlib.Omega.{arith}
 use lib.Dec.{eqb, leb}
 use lib.ListN.{length}
 use borrow.Author.Tests.{eqb-true, eq-eqb, leb-true, le-leb}
 use Rattle.whole.proofs.Choice.{both, and-both, all-passed, passed-all, kept-new, kept-old}
 use Rattle.whole.proofs.Refused.{number-is}
 use Rattle.units.specs.Refusals.{wrongLength, badReading, badBands}
-use Rattle.units.specs.Limits.{mostScore, earlierScores, secondsOfHour}
+use Rattle.units.specs.Limits.{mostScore, secondsOfHour}
 use Rattle.rate.specs.Rolling.{earlierFit, rateLengthsFit, areScores}
-use Rattle.rate.proofs.Rates.{NoneOrThree, no-score, three-scores, none-or-three}
 use Rattle.reached.specs.Reached.{judgedRefusal, judgedHour, notJudged, hourReached}
 use Rattle.reached.specs.Accepted.{ThresholdFits}
 use Rattle.reached.specs.declared.Judged.{Judged}
@@ -49,8 +47,3 @@ module _ (earlier scores : List ℕ) (threshold : ℕ) where
   pub hour-refused : (judgedRefusal earlier scores threshold ≡ 0 → ⊥) → hourReached earlier scores threshold ≡ notJudged (judgedRefusal earlier scores threshold)
   unfolding hourReached
   hour-refused n = kept-old _ _ n
-
--- an hour takes at most three earlier scores
-pub at-most-three : (earlier : List ℕ) → NoneOrThree earlier → length earlier ≤ earlierScores
-at-most-three _ no-score = omega arith
-at-most-three _ (three-scores a b c) = omega arith

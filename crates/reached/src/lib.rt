@@ -1,10 +1,12 @@
 // Did an hour reach a threshold? The first second whose whole window stays below it, and what is judged and read to
 // find it.
 ghost use mathlib.Core.Path.{_≡_};
+ghost use mathlib.Core.Bool.{true};
 ghost use mathlib.Core.List.{_++_};
 ghost use Prim.Native.Nat.{_+_, _-_, _≤_, _<_, min};
 ghost use lib.ListN.{length, getD};
-ghost use Rattle.units.specs.Limits.{earlierScores, secondsOfHour};
+ghost use Rattle.units.specs.Limits.{secondsOfHour};
+ghost use Rattle.rate.specs.Rolling.{earlierFit};
 ghost use Rattle.reached.specs.Reached.{judgedRefusal, judgedHour, notJudged, hourReached};
 use units::limits;
 use units::refusals;
@@ -56,7 +58,7 @@ fn not_judged(number: u8) -> Judged
 // Second by second, each window from its newest score back, as long as they are below the threshold. A window that ends
 // so ends the hour.
 fn judge(earlier: &[u8], scores: &[u8], threshold: u8) -> Judged
-    requires { ⌜ (length (now earlier) ≤ earlierScores) × (length (now scores) ≡ secondsOfHour) ⌝ }
+    requires { ⌜ (earlierFit (length (now earlier)) ≡ true) × (length (now scores) ≡ secondsOfHour) ⌝ }
     ensures { λ r. ⌜ r ≡ judgedHour (now (earlier .entry)) (now (scores .entry)) threshold ⌝ }
 {
     let mut read = 0;
@@ -73,7 +75,7 @@ fn judge(earlier: &[u8], scores: &[u8], threshold: u8) -> Judged
         }
         let mut score = scores[i];
         read += 1;
-        let width = width(earlier.len() + i);
+        let width = width(earlier.len(), i);
         let mut k = 0;
         while score < threshold {
             k += 1;
@@ -94,12 +96,14 @@ fn judge(earlier: &[u8], scores: &[u8], threshold: u8) -> Judged
     }
 }
 
-// How many scores a window has, by how many there are before its newest.
-fn width(before: usize) -> usize
-    ensures { λ r. ⌜ r ≡ min 4 (before + 1) ⌝ }
+// How many scores the window at place i has, by how many earlier scores there are: four, but for the first three where
+// there are none.
+fn width(earlier: usize, i: usize) -> usize
+    requires { ⌜ earlierFit earlier ≡ true ⌝ }
+    ensures { λ r. ⌜ r ≡ min 4 (earlier + i + 1) ⌝ }
 {
-    if before < limits::EARLIER {
-        return before + 1;
+    if (earlier == 0) & (i < limits::EARLIER) {
+        return i + 1;
     }
     4
 }

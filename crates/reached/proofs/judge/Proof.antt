@@ -38,9 +38,6 @@ shared-slice-read-score c = search needs
 add-read : tie.Need-add-read Inv-loop μ-loop Inv-seconds μ-seconds
 add-read c = search needs
 
-add-width : tie.Need-add-width Inv-loop μ-loop Inv-seconds μ-seconds
-add-width c = search needs
-
 width-requires : tie.Need-width-requires Inv-loop μ-loop Inv-seconds μ-seconds
 width-requires c κs = search needs
 
@@ -138,7 +135,6 @@ judge-spec =
     seconds-holds
     shared-slice-read-score
     add-read
-    add-width
     width-requires
     loop-holds
     add-k

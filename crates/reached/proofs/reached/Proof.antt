@@ -1,9 +1,8 @@
 -- `reached::reached` meets its contract: by what is refused, and what is judged where nothing is. Assumes nothing.
 use mathlib.Core.Path.{_≡_, sym, ap, _∙_}
 use borrow.Author.Needs.{needs}
-use Rattle.rate.proofs.Rates.{none-or-three}
 use Rattle.reached.specs.Reached.{judgedRefusal, notJudged}
-use Rattle.reached.proofs.Answers.{threshold-fits, hour-judged, hour-refused, at-most-three}
+use Rattle.reached.proofs.Answers.{threshold-fits, hour-judged, hour-refused}
 use Rattle.reached.proofs.reached.Statement.{statement}
 use Rattle.reached.proofs.reached.Tie as tie
 
@@ -29,7 +28,7 @@ judge-requires : tie.Need-judge-requires
 judge-requires c κs =
     let a = c .before .before .before .before .args in
     let f = threshold-fits (a .earlier .now) (a .scores .now) (a .threshold) (none c) .scored in
-    (at-most-three (a .earlier .now) (none-or-three (a .earlier .now) (f .of-earlier)), f .long)
+    (f .of-earlier, f .long)
 
 returns-2 : tie.Need-returns-2
 returns-2 c = c .judge .ensures ∙ sym (hour-judged _ _ _ (none (c .before)))
