@@ -82,5 +82,8 @@ fn with_answer(sum: u64, answer: Judged) -> u64 {
     let refused = chance::mixed(sum, answer.refusal as u64);
     let reached = chance::mixed(refused, answer.reached as u64);
     let named = chance::mixed(reached, answer.second as u64);
-    chance::mixed(chance::mixed(named, answer.judged as u64), answer.read as u64)
+    chance::mixed(
+        chance::mixed(named, answer.judged as u64),
+        answer.read as u64,
+    )
 }

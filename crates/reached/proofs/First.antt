@@ -1,19 +1,25 @@
 -- The first window that stays below a threshold, told by each window's scores: there is none, and each has a score at or above; or it is the i-th, and each before it has one. And what is
 -- read of a window: a score at least, and no more than it has. By induction on the windows. Assumes nothing.
-use Prim.Native.Nat.{ℕ, zero, suc, _+_, _*_, _≤_, _<_, max}
-use mathlib.Core.Path.{_≡_, refl, sym, ap, _∙_}
-use mathlib.Core.Bool.{Bool, true, false, _&&_}
+use Prim.Native.Nat.{ℕ, zero, suc, _+_, _*_, _≤_, _<_}
+use mathlib.Core.Path.{_≡_, refl, sym, _∙_}
+use mathlib.Core.Bool.{true, false}
 use mathlib.Core.List.{List, [], _∷_}
 use native.Mathlib.Nat.{not-suc-le-zero}
 use native.Mathlib.Omega.{arith}
 use lib.Dec.{ltb, leb}
 use lib.ListN.{length, getD}
-use borrow.Author.Tests.{lt-ltb, le-ltb, ltb-true, ltb-false}
+use borrow.Author.Tests.{ltb-true, ltb-false}
 use Rattle.whole.specs.Folds.{foldTo, addTo}
 use Rattle.whole.proofs.Choice.{clash, by-test, and-both, both}
 use Rattle.rate.specs.Rolling.{largest}
 use Rattle.reached.specs.Reached.{staysBelow, firstBelow, readIn}
-use Rattle.reached.specs.Accepted.{Below, Reaches}
+use Rattle.reached.specs.Accepted.{Below, Meets}
+
+-- no score of a list is above its largest
+pub largest-most : (w : List ℕ) (k : ℕ) → k < length w → getD w k 0 ≤ largest w
+largest-most [] k h = absurd (not-suc-le-zero h)
+largest-most (x ∷ w) zero h = omega arith
+largest-most (x ∷ w) (suc k) h = omega (arith, largest-most w k (omega arith))
 
 module _ (threshold : ℕ) where
   -- ---- one window
@@ -23,12 +29,12 @@ module _ (threshold : ℕ) where
   stays-below (x ∷ w) e zero h = ltb-true x threshold (and-both (ltb x threshold) (staysBelow threshold w) e .0)
   stays-below (x ∷ w) e (suc k) h = stays-below w (and-both (ltb x threshold) (staysBelow threshold w) e .1) k (omega arith)
 
-  pub reaches-not : (w : List ℕ) → staysBelow threshold w ≡ false → Reaches threshold w
-  reaches-not [] e = clash (sym e)
-  reaches-not (x ∷ w) e =
+  pub meets : (w : List ℕ) → staysBelow threshold w ≡ false → Meets threshold w
+  meets [] e = clash (sym e)
+  meets (x ∷ w) e =
       by-test (ltb x threshold)
       (λ (t : ltb x threshold ≡ true).
-      let r = reaches-not w (rw t at e) in
+      let r = meets w (rw t at e) in
       record { back = suc (r .back); inside = omega (arith, r .inside); met = r .met })
       (λ (t : ltb x threshold ≡ false). record { back = 0; inside = omega arith; met = ltb-false x threshold t })
 
@@ -37,11 +43,6 @@ module _ (threshold : ℕ) where
   largest-below [] l h = absurd (not-suc-le-zero l)
   largest-below (x ∷ []) l h = omega (arith, h 0 (omega arith))
   largest-below (x ∷ y ∷ w) l h = omega (arith, h 0 (omega arith), largest-below (y ∷ w) (omega arith) (λ k g. h (suc k) (omega arith)))
-
-  pub largest-reaches : (w : List ℕ) (k : ℕ) → k < length w → getD w k 0 ≤ largest w
-  largest-reaches [] k h = absurd (not-suc-le-zero h)
-  largest-reaches (x ∷ w) zero h = omega arith
-  largest-reaches (x ∷ w) (suc k) h = omega (arith, largest-reaches w k (omega arith))
 
   -- what is read of it
   pub read-least : (w : List ℕ) → 0 < length w → 1 ≤ readIn threshold w
@@ -58,9 +59,9 @@ module _ (threshold : ℕ) where
   -- ---- the windows of the seconds n, n + 1, ..
 
   pub data First (n : ℕ) (ws : List (List ℕ)) : Type 0 where
-    none-below : firstBelow threshold n ws ≡ 0 → ((j : ℕ) → j < length ws → Reaches threshold (getD ws j [])) → First n ws
+    none-below : firstBelow threshold n ws ≡ 0 → ((j : ℕ) → j < length ws → Meets threshold (getD ws j [])) → First n ws
     first-below : (i : ℕ) → firstBelow threshold n ws ≡ n + i → i < length ws → Below threshold (getD ws i [])
-        → ((j : ℕ) → j < i → Reaches threshold (getD ws j [])) → First n ws
+        → ((j : ℕ) → j < i → Meets threshold (getD ws j [])) → First n ws
 
   pub first : (n : ℕ) (ws : List (List ℕ)) → First n ws
   first n [] = none-below refl (λ j h. absurd (not-suc-le-zero h))
@@ -68,22 +69,22 @@ module _ (threshold : ℕ) where
       by-test (staysBelow threshold w)
       (λ (t : staysBelow threshold w ≡ true).
       first-below 0 (rw t (omega arith)) (omega arith) (stays-below w t) (λ j h. absurd (not-suc-le-zero h)))
-      (λ (t : staysBelow threshold w ≡ false). later t (reaches-not w t) (first (n + 1) ws))
+      (λ (t : staysBelow threshold w ≡ false). later t (meets w t) (first (n + 1) ws))
     where
-      later : staysBelow threshold w ≡ false → Reaches threshold w → First (n + 1) ws → First n (w ∷ ws)
+      later : staysBelow threshold w ≡ false → Meets threshold w → First (n + 1) ws → First n (w ∷ ws)
       later t r (none-below e each) = none-below (rw t e) (after r each)
         where
-          after : Reaches threshold w → ((j : ℕ) → j < length ws → Reaches threshold (getD ws j [])) → (j : ℕ) → j < length (w ∷ ws) → Reaches threshold (getD (w ∷ ws) j [])
+          after : Meets threshold w → ((j : ℕ) → j < length ws → Meets threshold (getD ws j [])) → (j : ℕ) → j < length (w ∷ ws) → Meets threshold (getD (w ∷ ws) j [])
           after r each zero h = r
           after r each (suc j) h = each j (omega arith)
       later t r (first-below i e l b before) = first-below (suc i) (rw t (e ∙ omega arith)) (omega arith) b (after r before)
         where
-          after : Reaches threshold w → ((j : ℕ) → j < i → Reaches threshold (getD ws j [])) → (j : ℕ) → j < suc i → Reaches threshold (getD (w ∷ ws) j [])
+          after : Meets threshold w → ((j : ℕ) → j < i → Meets threshold (getD ws j [])) → (j : ℕ) → j < suc i → Meets threshold (getD (w ∷ ws) j [])
           after r before zero h = r
           after r before (suc j) h = before j (omega arith)
 
--- no window both stays below and reaches; and one that stays below a threshold stays below a higher one
-pub not-both {ℓ} : {X : Type ℓ} (t u : ℕ) (w : List ℕ) → t ≤ u → Below t w → Reaches u w → X
+-- no window both stays below and meets a threshold; and one that stays below a threshold stays below a higher one
+pub not-both {ℓ} : {X : Type ℓ} (t u : ℕ) (w : List ℕ) → t ≤ u → Below t w → Meets u w → X
 not-both t u w h b r = absurd (omega (arith, b (r .back) (r .inside), r .met))
 
 -- a sum of so many terms of 1 to 4

@@ -1,11 +1,10 @@
 -- One step of judging at a time: a score of a window that is read, a window that reaches the threshold or stays below it, a second that passes or is named. What a loop over the seconds and
 -- their windows needs; by one step of the definitions each. Assumes nothing.
-use Prim.Native.Nat.{ℕ, suc, _+_, _*_, _≤_, _<_}
+use Prim.Native.Nat.{ℕ, _+_, _≤_, _<_}
 use mathlib.Core.Path.{_≡_, refl, sym, ap, _∙_}
-use mathlib.Core.Bool.{Bool, true, false, _&&_}
+use mathlib.Core.Bool.{true, false}
 use mathlib.Core.List.{List, [], _∷_}
 use native.Mathlib.Omega.{arith}
-use lib.Dec.{ltb, leb}
 use lib.ListN.{length, drop, getD}
 use borrow.Author.Tests.{lt-ltb, le-ltb, le-leb, lt-leb, ne-eqb}
 use Rattle.whole.specs.Choice.{pick}
@@ -13,8 +12,7 @@ use Rattle.whole.specs.Folds.{addTo}
 use Rattle.whole.proofs.Folds.{fold-none, fold-step}
 use Rattle.whole.proofs.Runs.{rest, no-rest}
 use Rattle.units.specs.Limits.{secondsOfHour}
-use Rattle.reached.specs.Reached.{hourWindows, staysBelow, firstBelow, namedSecond, secondsJudged, readIn, scoresRead, judgedHour}
-use Rattle.reached.specs.declared.Judged.{Judged}
+use Rattle.reached.specs.Reached.{hourWindows, staysBelow, firstBelow, namedSecond, readIn, judgedHour}
 use Rattle.reached.proofs.Windows.{window-count}
 
 -- ---- a window: its first k scores are read, and all are below

@@ -14,15 +14,15 @@ use Rattle.units.specs.Limits.{secondsOfHour}
 use Rattle.rate.specs.Rolling.{largest, smallest, rolling}
 use Rattle.rate.proofs.Rates.{length-rolling, smallest-least, smallest-most}
 use Rattle.reached.specs.Reached.{hourWindows, namedSecond, secondsJudged, scoresRead, judgedRefusal, hourReached}
-use Rattle.reached.specs.Accepted.{windowAt, Reaches, FirstBelow}
+use Rattle.reached.specs.Accepted.{windowAt, Meets, FirstBelow}
 use Rattle.reached.specs.declared.Judged.{Judged}
 use Rattle.reached.proofs.Windows.{window-count, window-long}
 use Rattle.reached.proofs.Answers.{threshold-fits}
-use Rattle.reached.proofs.First.{First, none-below, first-below, first, not-both, largest-below, largest-reaches, read-least, read-most, sum-four}
+use Rattle.reached.proofs.First.{First, none-below, first-below, first, not-both, largest-below, largest-most, read-least, read-most, sum-four}
 
 module _ (earlier scores : List ℕ) (threshold : ℕ) where
   pub data Named : Type 0 where
-    no-second : namedSecond earlier scores threshold ≡ 0 → ((j : ℕ) → j < secondsOfHour → Reaches threshold (windowAt earlier scores j)) → Named
+    no-second : namedSecond earlier scores threshold ≡ 0 → ((j : ℕ) → j < secondsOfHour → Meets threshold (windowAt earlier scores j)) → Named
     the-second : (i : ℕ) → namedSecond earlier scores threshold ≡ i + 1 → FirstBelow earlier scores threshold i → Named
 
 module _ (earlier scores : List ℕ) (threshold : ℕ) (long : length scores ≡ secondsOfHour) where
@@ -49,9 +49,9 @@ module _ (earlier scores : List ℕ) (threshold : ℕ) (long : length scores ≡
       told : Named earlier scores threshold → eqb (namedSecond earlier scores threshold) 0 ≡ leb threshold (smallest (rolling earlier scores))
       told (no-second e each) =
           let over = smallest-most threshold (rolling earlier scores) (omega (arith, length-rolling earlier scores))
-              (λ i h.
-              let r = each i (omega (arith, length-rolling earlier scores)) in
-              omega (arith, rolling-at i, r .met, largest-reaches threshold (windowAt earlier scores i) (r .back) (r .inside))) in
+          (λ i h.
+          let r = each i (omega (arith, length-rolling earlier scores)) in
+          omega (arith, rolling-at i, r .met, largest-most (windowAt earlier scores i) (r .back) (r .inside))) in
           eq-eqb _ 0 e ∙ sym (le-leb threshold (smallest (rolling earlier scores)) over)
       told (the-second i e f) =
           let inside : i < length scores = omega (arith, f .within) in
@@ -115,8 +115,9 @@ pub higher : (earlier scores : List ℕ) (t u : ℕ) → t ≤ u → Named earli
     → (1 ≤ namedSecond earlier scores u) × (namedSecond earlier scores u ≤ namedSecond earlier scores t)
 higher earlier scores t u h (no-second e each) later n = absurd (n e)
 higher earlier scores t u h (the-second i e f) (no-second d each) n = not-both t u (windowAt earlier scores i) h (f .below) (each i (f .within))
-higher earlier scores t u h (the-second i e f) (the-second j d g) n =
-    (omega arith,
-    by-test (ltb i j)
-    (λ (l : ltb i j ≡ true). not-both t u (windowAt earlier scores i) h (f .below) (g .before i (ltb-true i j l)))
-    (λ (l : ltb i j ≡ false). omega (arith, ltb-false i j l)))
+higher earlier scores t u h (the-second i e f) (the-second j d g) n = (
+  omega arith,
+  by-test (ltb i j)
+      (λ (l : ltb i j ≡ true). not-both t u (windowAt earlier scores i) h (f .below) (g .before i (ltb-true i j l)))
+      (λ (l : ltb i j ≡ false). omega (arith, ltb-false i j l)),
+)

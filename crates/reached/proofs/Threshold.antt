@@ -18,7 +18,7 @@ use Rattle.rate.proofs.Rates.{rate-granted}
 use Rattle.rate.proofs.hourly_rate.Reads as hourly-rate
 use Rattle.rate.proofs.hourly_rate.Kinds as hourly-rate-kinds
 use Rattle.reached.specs.Reached.{judgedHour, hourReached}
-use Rattle.reached.specs.Accepted.{ThresholdFits, windowAt, Reaches, FirstBelow}
+use Rattle.reached.specs.Accepted.{ThresholdFits, windowAt, Meets, FirstBelow}
 use Rattle.reached.specs.declared.Judged.{Judged}
 use Rattle.reached.proofs.Answers.{threshold-fits, judged-refusal, hour-judged}
 use Rattle.reached.proofs.Seconds.{Named, no-second, the-second, named, nonempty, named-rate, judged-within, read-within, higher}
@@ -63,10 +63,10 @@ module _ (κs : Lfts 2) (earlier scores : RefT (List ℕ)) (threshold : ℕ) (x 
           subst (FirstBelow (now earlier) (now scores) threshold) same f
 
   -- where it names none, every window does
-  pub reached-all : x .second ≡ 0 → (j : ℕ) → j < secondsOfHour → Reaches threshold (windowAt (now earlier) (now scores) j)
+  pub reached-all : x .second ≡ 0 → (j : ℕ) → j < secondsOfHour → Meets threshold (windowAt (now earlier) (now scores) j)
   reached-all e = told (named (now earlier) (now scores) threshold (is .0 .scored .long))
     where
-      told : Named (now earlier) (now scores) threshold → (j : ℕ) → j < secondsOfHour → Reaches threshold (windowAt (now earlier) (now scores) j)
+      told : Named (now earlier) (now scores) threshold → (j : ℕ) → j < secondsOfHour → Meets threshold (windowAt (now earlier) (now scores) j)
       told (no-second d each) = each
       told (the-second j d f) = absurd (omega (arith, ap (λ (a : Judged). a .second) (is .1)))
 

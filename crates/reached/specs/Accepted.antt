@@ -20,7 +20,7 @@ abbrev pub Below : ℕ → List ℕ → Type 0
 Below threshold window = (k : ℕ) → k < length window → getD window k 0 < threshold
 
 -- a window reaches the threshold: a score of it is at or above
-pub record Reaches (threshold : ℕ) (window : List ℕ) : Type 0 where
+pub record Meets (threshold : ℕ) (window : List ℕ) : Type 0 where
   pub back : ℕ
   pub inside : back < length window
   pub met : threshold ≤ getD window back 0
@@ -29,4 +29,4 @@ pub record Reaches (threshold : ℕ) (window : List ℕ) : Type 0 where
 pub record FirstBelow (earlier scores : List ℕ) (threshold i : ℕ) : Type 0 where
   pub within : i < secondsOfHour
   pub below : Below threshold (windowAt earlier scores i)
-  pub before : (j : ℕ) → j < i → Reaches threshold (windowAt earlier scores j)
+  pub before : (j : ℕ) → j < i → Meets threshold (windowAt earlier scores j)

@@ -61,9 +61,9 @@ module _ (h : SRegHour) (places : ℕ) (f : SRegFits h places) where
   unfolding sRegScores
   score-plain i l = score-at (h .state) (h .terms .capacity .0) (h .powers) (h .frequencies) i even (omega (arith, lengths .of-powers))
 
-  scores-fit : ScoresFit (h .earlier) (sRegScores h)
+  pub sreg-scores-fit : ScoresFit (h .earlier) (sRegScores h)
   unfolding sRegScores
-  scores-fit = record { long = scores-long; of-earlier = lengths .of-earlier; before = f .before; small = small-scores (h .state) (h .terms .capacity .0) (h .powers) (h .frequencies) }
+  sreg-scores-fit = record { long = scores-long; of-earlier = lengths .of-earlier; before = f .before; small = small-scores (h .state) (h .terms .capacity .0) (h .powers) (h .frequencies) }
 
   -- ---- the rate and the fees
 
@@ -78,7 +78,7 @@ module _ (h : SRegHour) (places : ℕ) (f : SRegFits h places) where
         frequencies = lengths .of-frequencies;
         seconds = scores-long;
         score = score-plain;
-        rate = ap (λ (x : Rated). x .rate) (rate-granted (h .earlier) (sRegScores h) scores-fit);
+        rate = ap (λ (x : Rated). x .rate) (rate-granted (h .earlier) (sRegScores h) sreg-scores-fit);
         factor = factor-plain g places also tt rate (rate-within (h .earlier) (sRegScores h));
         capacity = fee-plain g places also tt (h .terms .clearing) (prices .0);
         performance = fee-plain g places also tt (h .terms .performance) (prices .1);

@@ -18,7 +18,7 @@ badMoney = 3
 abbrev pub badReading : ℕ
 badReading = 4
 
--- bands against the rule, a list of 0 or more than 16 records included
+-- bands against the rule, a list of 0 or more than 16 records included; a threshold that is asked about, above 100 (document 02, #106)
 abbrev pub badBands : ℕ
 badBands = 5
 

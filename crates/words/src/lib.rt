@@ -1,6 +1,6 @@
 // The questions of the program `desk`: of each its word, and the shape of its numbers. And the numbers of the faults.
 ghost use mathlib.Core.Path.{_≡_};
-ghost use Rattle.words.specs.Questions.{known, singles, secondsShape, scoresShape, singlesGroups, hourShape, stateShape, questionOf};
+ghost use Rattle.words.specs.Questions.{known, singles, secondsShape, scoresShape, singlesGroups, hourShape, stateShape, unknown, questionOf};
 use units::limits;
 
 mod codes;
@@ -105,15 +105,22 @@ pub fn question_of(code: u64) -> Row
         codes::FRAME => singles(Question::Frame(Framing::Frame), 4),
         codes::LOSS_FRAMES => singles(Question::Frame(Framing::LossFrames), 4),
         codes::PAIR_FRAME => singles(Question::PairFrame, 3),
-        _ => Row {
-            fault: faults::NOT_QUESTION,
-            question: Question::Unknown,
-            shape: Shape {
-                head: 0,
-                lists: [0, 0, 0, 0],
-                tail: 0,
-                group: 0,
-            },
+        _ => unknown(),
+    }
+}
+
+// None of the words.
+fn unknown() -> Row
+    ensures { λ r. ⌜ r ≡ unknown ⌝ }
+{
+    Row {
+        fault: faults::NOT_QUESTION,
+        question: Question::Unknown,
+        shape: Shape {
+            head: 0,
+            lists: [0, 0, 0, 0],
+            tail: 0,
+            group: 0,
         },
     }
 }

@@ -1,7 +1,7 @@
 -- `reached::judge` meets its contract. The outer loop's invariant: the seconds passed are judged, and none is named; the inner one's: the scores of the window that were read before this one
 -- are all below. Assumes nothing.
 use Prim.Native.Nat.{ℕ, _+_, _*_, _-_, _≤_, _<_}
-use mathlib.Core.Path.{_≡_, refl, sym, ap, _∙_}
+use mathlib.Core.Path.{_≡_, sym, ap, _∙_}
 use mathlib.Core.List.{List, [], _++_}
 use native.Mathlib.Omega.{arith}
 use lib.ListN.{length, getD}

@@ -1,7 +1,7 @@
 -- `rules::judged` meets its contract: the library's answer, field by field, whose numbers are small; the first four of the earlier scores stand for all. Assumes nothing.
 use Prim.Native.Nat.{ℕ, _*_, _≤_}
 use native.Mathlib.Omega.{arith}
-use mathlib.Core.Path.{_≡_, refl, sym, ap, ap₂, _∙_}
+use mathlib.Core.Path.{_≡_, refl, _∙_}
 use mathlib.Core.Bool.{Bool, true, false}
 use lib.IntN.{pos}
 use mir.Syntax.{w64}
@@ -11,7 +11,6 @@ use Rattle.whole.specs.Choice.{pick}
 use Rattle.units.specs.Refusals.{wrongLength}
 use Rattle.units.specs.Limits.{secondsOfHour}
 use Rattle.reached.specs.Reached.{notJudged, hourReached}
-use Rattle.reached.specs.declared.Judged.{Judged}
 use Rattle.reached.proofs.Seconds.{answer-within}
 use Rattle.numbers.specs.Numbers.{scoresIn}
 use Rattle.numbers.specs.Inner.{taken}
@@ -78,9 +77,9 @@ returns c =
     let a = f .before .before .args in
     let scores = scores-filled (a .tail .now) secondsOfHour _ (f .before .before .pre) (f .fill-bytes .ensures) in
     let judged =
-        b .reached .ensures
-        ∙ (λ i. hourReached (taken (e .first-four .ensures i)) (scores i) (a .threshold))
-        ∙ four-stand (λ l k. hourReached l k (a .threshold)) (notJudged wrongLength) (reached-unfit (a .threshold)) (scoresIn (a .tail .now)) (a .earlier .now) in
+    b .reached .ensures
+    ∙ (λ i. hourReached (taken (e .first-four .ensures i)) (scores i) (a .threshold))
+    ∙ four-stand (λ l k. hourReached l k (a .threshold)) (notJudged wrongLength) (reached-unfit (a .threshold)) (scoresIn (a .tail .now)) (a .earlier .now) in
     rw (said _, toZ-ofZ (cast-second (c .before .before)), toZ-ofZ (cast-seconds (c .before)), toZ-ofZ (cast-read c), judged)
 
 pub judged-spec : {M : Type 1} → statement M

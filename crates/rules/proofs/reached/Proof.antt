@@ -1,6 +1,6 @@
 -- `rules::reached` meets its contract: earlier scores that are not counted, and scores of another number, are refused. Assumes nothing.
-use mathlib.Core.Path.{_≡_, sym, ap, _∙_}
-use mathlib.Core.Bool.{Bool, true, false, _&&_}
+use mathlib.Core.Path.{_≡_, sym, _∙_}
+use mathlib.Core.Bool.{true, false, _&&_}
 use lib.Dec.{eqb}
 use lib.IntN.{pos}
 use lib.ListN.{length, getD}
@@ -31,8 +31,11 @@ returns c =
     let n = not-true (a .counted && eqb (length t) secondsOfHour) (c .before .if1 .taken) in
     by-test (a .counted)
     (λ (e : a .counted ≡ true).
-    rw (e, wrong-count (λ l k. hourReached l k (byteOf (number (a .t1) 0))) (notJudged wrongLength) (reached-unfit (byteOf (number (a .t1) 0))) (scoresIn (a .earlier .now)) (scoresIn t)
-    (λ z. clash (sym (rw e at n) ∙ eq-eqb (length t) secondsOfHour (sym (length-bytes t (length t)) ∙ z)))) (c .unjudged .ensures))
+    rw (
+      e,
+      wrong-count (λ l k. hourReached l k (byteOf (number (a .t1) 0))) (notJudged wrongLength) (reached-unfit (byteOf (number (a .t1) 0))) (scoresIn (a .earlier .now)) (scoresIn t)
+          (λ z. clash (sym (rw e at n) ∙ eq-eqb (length t) secondsOfHour (sym (length-bytes t (length t)) ∙ z))),
+    ) (c .unjudged .ensures))
     (λ (e : a .counted ≡ false). rw e (c .unjudged .ensures))
 
 array-copy-out-byte-of : tie.Need-array-copy-out-byte-of

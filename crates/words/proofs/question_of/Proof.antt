@@ -1,5 +1,5 @@
 -- `words::question_of` meets its contract: the row of each word is found by computing, and any other word is unknown. Assumes nothing.
-use mathlib.Core.Path.{sym}
+use mathlib.Core.Path.{sym, _∙_}
 use Rattle.words.specs.Words.{letterOf}
 use Rattle.words.specs.Questions.{table, questionOf}
 use Rattle.words.proofs.Finding.{nowhere}
@@ -81,6 +81,9 @@ singles-requires-10 c κs = search needs
 
 singles-requires-11 : tie.Need-singles-requires-11
 singles-requires-11 c κs = search needs
+
+unknown-requires : tie.Need-unknown-requires
+unknown-requires c κs = search needs
 
 returns : tie.Need-returns
 unfolding questionOf letterOf
@@ -184,7 +187,7 @@ returns-25 c = rw (c .before .match .keys25) (c .singles11 .ensures)
 
 returns-26 : tie.Need-returns-26
 unfolding questionOf letterOf
-returns-26 c = sym (nowhere (c .before .args .code) Unit table (c .match .rest) .1)
+returns-26 c = c .unknown .ensures ∙ sym (nowhere (c .before .before .args .code) Unit table (c .before .match .rest) .1)
 
 pub question-of-spec : {M : Type 1} → statement M
 question-of-spec =
@@ -215,6 +218,7 @@ question-of-spec =
     singles-requires-9
     singles-requires-10
     singles-requires-11
+    unknown-requires
     returns
     returns-2
     returns-3

@@ -1,0 +1,2 @@
+-- The theorems about hours and thresholds.
+pub mod Hours
