@@ -10,7 +10,7 @@ const WRONG_LENGTH: u8 = 1;
 const BAD_READING: u8 = 4;
 const BAD_THRESHOLD: u8 = 5;
 
-struct Judged {
+struct Verdict {
     reached: bool,
     second: usize,
     judged: usize,
@@ -22,7 +22,7 @@ fn are_scores(scores: &[u8]) -> bool {
     scores.iter().fold(true, |all, &score| all & (score <= SCORE))
 }
 
-fn reached(earlier: &[u8], scores: &[u8], threshold: u8) -> Result<Judged, u8> {
+fn reached(earlier: &[u8], scores: &[u8], threshold: u8) -> Result<Verdict, u8> {
     if scores.len() != SECONDS || !matches!(earlier.len(), 0 | 3) {
         return Err(WRONG_LENGTH);
     }
@@ -41,9 +41,9 @@ fn reached(earlier: &[u8], scores: &[u8], threshold: u8) -> Result<Judged, u8> {
                 continue 'seconds;
             }
         }
-        return Ok(Judged { reached: false, second: i + 1, judged: i + 1, read });
+        return Ok(Verdict { reached: false, second: i + 1, judged: i + 1, read });
     }
-    Ok(Judged { reached: true, second: 0, judged: SECONDS, read })
+    Ok(Verdict { reached: true, second: 0, judged: SECONDS, read })
 }
 
 const MODULUS: u64 = 4_294_967_296;
@@ -56,12 +56,16 @@ fn mixed(sum: u64, number: u64) -> u64 {
     (sum % MODULUS * 31 + number % MODULUS) % MODULUS
 }
 
-// The score of a second, drawn by x: 95 to 100; 90 to 100, and 100 in every fourth second; or 90 to 100.
+// The score of a second, drawn by x: 95 to 100, 90 to 100, 90 to 94; in the last two every fourth second scores 100, from the first on. Else
+// as for `1`, but for the last four seconds, which are below 95.
 fn drawn(kind: u8, place: usize, x: u64) -> u8 {
+    let x = x / 65_536;
+    let last = !matches!(kind, b'0'..=b'2') && place >= SECONDS - 4;
     match kind {
-        b'0' => (95 + x / 65_536 % 6) as u8,
-        b'1' if place % 4 == 3 => 100,
-        _ => (90 + x / 65_536 % 11) as u8,
+        b'0' => (95 + x % 6) as u8,
+        _ if place % 4 == 0 && !last => 100,
+        _ if kind == b'2' || last => (90 + x % 5) as u8,
+        _ => (90 + x % 11) as u8,
     }
 }
 
@@ -77,11 +81,11 @@ fn run(kind: u8, threshold: u8, before: u8, count: u64) -> u64 {
         x = next(x);
         let place = n as usize % SECONDS;
         scores[place] = drawn(kind, place, x);
-        let (refusal, judged) = match reached(earlier, &scores, threshold) {
-            Ok(judged) => (0, judged),
-            Err(refusal) => (refusal, Judged { reached: false, second: 0, judged: 0, read: 0 }),
+        let (refusal, verdict) = match reached(earlier, &scores, threshold) {
+            Ok(verdict) => (0, verdict),
+            Err(refusal) => (refusal, Verdict { reached: false, second: 0, judged: 0, read: 0 }),
         };
-        let numbers = [refusal as usize, judged.reached as usize, judged.second, judged.judged, judged.read];
+        let numbers = [refusal as usize, verdict.reached as usize, verdict.second, verdict.judged, verdict.read];
         sum = numbers.iter().fold(sum, |sum, &number| mixed(sum, number as u64));
     }
     sum

@@ -315,12 +315,12 @@ fn ask_reached(draw: &mut Draw, text: &mut String, threshold: i64, earlier: &[i6
 
 /// A threshold about an hour's rate, or any, or past the limit.
 fn threshold_near(draw: &mut Draw, earlier: &[i64], list: &[i64]) -> i64 {
-    let lowest = (1..=SECONDS as i64).map(|t| rolling(&earlier[1..], list, t)).min().expect("an hour has seconds");
+    let rate = rate_of(&earlier[1..], list);
     match draw.below(10) {
         0 => draw.fit(THRESHOLD),
         1 => draw.of(&[0, 1, 99, 100]),
         2 => score_edge(draw),
-        _ => lowest + draw.between(-1, 1),
+        _ => rate + draw.between(-1, 1),
     }
 }
 

@@ -217,7 +217,7 @@ pub fn rolling(earlier: &[i64], scores: &[i64], t: i64) -> i64 {
     (first..=t).filter_map(|second| known(earlier, scores, second)).max().expect("a window holds its second")
 }
 
-fn rate_of(earlier: &[i64], scores: &[i64]) -> i64 {
+pub fn rate_of(earlier: &[i64], scores: &[i64]) -> i64 {
     (1..=scores.len() as i64).map(|t| rolling(earlier, scores, t)).min().expect("an hour has seconds")
 }
 

@@ -131,20 +131,11 @@ def rate(earlier, zeros):
 
 
 def reached(threshold, earlier, scores):
-    """The question, and its answer: every window is cut out, and looked at from its newest score back."""
-    run, read = [*earlier, *scores], 0
-    for second in range(1, 3601):
-        newest = len(earlier) + second
-        window = run[max(0, newest - 4) : newest][::-1]
-        met = [score >= threshold for score in window]
-        read += met.index(True) + 1 if any(met) else len(window)
-        if not any(met):
-            break
-    named = 0 if any(met) else second
-    return f"reached {threshold} " + words(len(earlier), *earlier, *scores), words(0, int(any(met)), named, second, read)
+    """The question for an hour's scores, and its answer."""
+    return f"reached {threshold} " + words(len(earlier), *earlier, *scores), words(*model.verdict(scores, earlier, threshold))
 
 
-def unjudged(refusal, numbers):
+def no_verdict(refusal, numbers):
     """A question whose numbers are refused, and its answer."""
     return "reached " + numbers, words(refusal, 0, 0, 0, 0)
 
@@ -196,15 +187,15 @@ asked = [
     reached(95, [94, 94, 94], [94] + [100] * 3599),
     reached(95, [95, 0, 0], [0, 0] + [100] * 3598),
     reached(95, [], [95, 94, 94, 94] * 900),
-    reached(100, [0, 0, 100], [99, 99, 100, 99] * 899 + [99] * 4),
+    reached(100, [0, 0, 100], [99, 99, 99, 100] * 899 + [99] * 4),
     *(reached(threshold, [], scores) for threshold in (settled[1], settled[1] + 1)),
     # 1, then 4, then 5; a threshold outside 0 to 255 is taken as 255
-    unjudged(1, "101 2 101 0 " + "0 " * 3600),
-    unjudged(1, "95 101 " + "0 " * 3600),
-    unjudged(1, "95 -1 " + "0 " * 3600),
-    unjudged(4, "101 0 " + "0 " * 3599 + "101"),
-    unjudged(4, "101 3 0 256 0 " + "0 " * 3600),
-    *(unjudged(5, f"{threshold} 0 " + "100 " * 3600) for threshold in (101, 256, -1)),
+    no_verdict(1, "101 2 101 0 " + "0 " * 3600),
+    no_verdict(1, "95 101 " + "0 " * 3600),
+    no_verdict(1, "95 -1 " + "0 " * 3600),
+    no_verdict(4, "101 0 " + "0 " * 3599 + "101"),
+    no_verdict(4, "101 3 0 256 0 " + "0 " * 3600),
+    *(no_verdict(5, f"{threshold} 0 " + "100 " * 3600) for threshold in (101, 256, -1)),
     ("bands 95 10 0 -10", "0"),
     ("bands", "5"),
     ("factor 94 " + words(*bands), words(0, 8)),

@@ -353,6 +353,22 @@ def rate(label, scores, earlier=[]):
     return k, r
 
 
+def verdict(scores, earlier, threshold):
+    """Refusal, whether the hour reached the threshold, the second named, the seconds judged, the scores read (#106): every window is cut out, and looked at from its newest score back."""
+    k = 5 if threshold > 100 else 0
+    k = 1 if len(scores) != 3600 or len(earlier) not in (0, 3) else 4 if max(earlier + scores) > 100 else k
+    if k:
+        return k, 0, 0, 0, 0
+    run, read = earlier + scores, 0
+    for second in range(1, 3601):
+        newest = len(earlier) + second
+        met = [score >= threshold for score in reversed(run[max(0, newest - 4) : newest])]
+        if not any(met):
+            return 0, 0, second, second, read + len(met)
+        read += met.index(True) + 1
+    return 0, 1, 0, 3600, read
+
+
 line("document 001, example 2: a second's score")
 assert second(4300, 0, 10000, 59900) == 95
 assert second(3500, 0, 10000, 59900) == 100
@@ -433,6 +449,33 @@ for label, earlier, zeros, answer in [
 rate("three, and 3,599 scores", [100] * 3599, [100] * 3)
 rate("three, and a score of 101", [100] * 3599 + [101], [100] * 3)
 rate("two, and a score of 101", [100] * 3599 + [101], [100] * 2)
+
+line("document 02, #106: did the hour reach 95?")
+for label, start, stop, other, threshold, answer in [
+    ("steady", 0, 0, 0, 95, (0, 1, 0, 3600, 3600)),
+    ("three zeros after a second", 1, 4, 0, 95, (0, 1, 0, 3600, 3606)),
+    ("four zeros after a second", 1, 5, 0, 95, (0, 0, 5, 5, 14)),
+    ("zeros, by 0", 0, 3600, 0, 0, (0, 1, 0, 3600, 3600)),
+    ("zeros, by 1", 0, 3600, 0, 1, (0, 0, 1, 1, 1)),
+    ("four at 94 last", 3596, 3600, 94, 95, (0, 0, 3600, 3600, 3609)),
+    ("four at 95 last", 3596, 3600, 95, 95, (0, 1, 0, 3600, 3600)),
+]:
+    assert verdict(but(100, start, stop, other), [], threshold) == answer
+    line(label, *answer)
+for label, earlier, zeros in [
+    ("95 0 0, a zero", [95, 0, 0], 1),
+    ("95 0 0, two zeros", [95, 0, 0], 2),
+    ("0 0 95, three zeros", [0, 0, 95], 3),
+    ("0 0 95, four zeros", [0, 0, 95], 4),
+    ("94 94 94, a zero", [94] * 3, 1),
+    ("two earlier scores", [100, 100], 0),
+    ("101 first", [101, 0, 0], 0),
+]:
+    line(label, *verdict(but(100, 0, zeros, 0), earlier, 95))
+line("3,599 scores, by 101", *verdict([100] * 3599, [101], 101))
+line("a score of 101, by 101", *verdict([100] * 3599 + [101], [], 101))
+line("by 101", *verdict([100] * 3600, [], 101))
+line("by 255", *verdict([100] * 3600, [], 255))
 
 
 # ---- the quality bands

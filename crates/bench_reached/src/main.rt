@@ -2,14 +2,19 @@
 // Before each question one score is drawn anew, so that no hour is the one before. The input's first byte says how
 // scores are drawn, its second is the threshold, its third how many earlier scores there are; there are as many
 // questions as it has bytes, up to 65,536. Their number and a check sum are printed. The peer is bench/reached.rs.
-// A program cannot lend another its module, so chance.rt is bench's.
+//
+// It is a program of its own, so that the others' code comes to lie where it lay; a program cannot lend another its
+// module, so chance.rt is bench's.
 mod chance;
 
-use reached::Judged;
+use reached::Verdict;
 use units::limits;
 
 // The scores of the hour before.
 const EARLIER: [u8; 4] = [90, 91, 100, 100];
+
+// The last four seconds.
+const LATE: usize = limits::SECONDS - 4;
 
 fn main() {
     let mut input = io::large_buffer();
@@ -67,18 +72,23 @@ fn redraw(scores: &mut [u8], kind: u8, place: usize, x: u64) {
     }
 }
 
-// The score of a second, drawn by x: 95 to 100 (`0`); 90 to 100, and 100 in every fourth second (`1`); or 90 to 100.
+// The score of a second, drawn by x: 95 to 100 (`0`), 90 to 100 (`1`), 90 to 94 (`2`); in the last two every fourth
+// second scores 100, from the first on. Else as for `1`, but for the last four seconds, which are below 95.
 fn drawn(kind: u8, place: usize, x: u64) -> u8 {
     if kind == b'0' {
         return (95 + x / 65_536 % 6) as u8;
     }
-    if (kind == b'1') & (place % 4 == 3) {
+    let last = (kind != b'1') & (kind != b'2') & (LATE <= place);
+    if (place % 4 == 0) & !last {
         return 100;
+    }
+    if (kind == b'2') | last {
+        return (90 + x / 65_536 % 5) as u8;
     }
     (90 + x / 65_536 % 11) as u8
 }
 
-fn with_answer(sum: u64, answer: Judged) -> u64 {
+fn with_answer(sum: u64, answer: Verdict) -> u64 {
     let refused = chance::mixed(sum, answer.refusal as u64);
     let reached = chance::mixed(refused, answer.reached as u64);
     let named = chance::mixed(reached, answer.second as u64);

@@ -4,6 +4,7 @@ mod bands_cases;
 mod curve_cases;
 mod ledger_cases;
 mod ramp_cases;
+mod reached_cases;
 mod records_cases;
 mod score_cases;
 mod text;
@@ -25,6 +26,7 @@ fn main() {
     score_cases::limits();
     score_cases::rates();
     score_cases::earlier_rates();
+    reached_cases::reached();
     bands_cases::rates();
     bands_cases::lists();
     records_cases::records();

@@ -90,7 +90,7 @@ fn table_2() {
 }
 
 // Eleven scores over and over, from a place on, up to another or the run's end.
-fn repeat(eleven: &[u8], scores: &mut [u8], from: usize, to: usize) {
+pub(crate) fn repeat(eleven: &[u8], scores: &mut [u8], from: usize, to: usize) {
     let mut i = from;
     while i < scores.len() {
         let old = scores[i];

@@ -95,6 +95,18 @@ pub smallest-most : (k : ℕ) (xs : List ℕ) → 0 < length xs → ((i : ℕ) �
 smallest-most k [] h f = absurd (not-suc-le-zero h)
 smallest-most k (x ∷ xs) h f = most k x xs (f 0 (omega arith)) (λ i l. f (suc i) (omega arith))
 
+-- ---- the largest of a list is: none is above, and where all are below a number it is
+
+pub largest-most : (xs : List ℕ) (i : ℕ) → i < length xs → getD xs i 0 ≤ largest xs
+largest-most [] i h = absurd (not-suc-le-zero h)
+largest-most (x ∷ xs) zero h = omega arith
+largest-most (x ∷ xs) (suc i) h = omega (arith, largest-most xs i (omega arith))
+
+pub largest-below : (k : ℕ) (xs : List ℕ) → 0 < length xs → ((i : ℕ) → i < length xs → getD xs i 0 < k) → largest xs < k
+largest-below k [] l h = absurd (not-suc-le-zero l)
+largest-below k (x ∷ []) l h = omega (arith, h 0 (omega arith))
+largest-below k (x ∷ y ∷ xs) l h = omega (arith, h 0 (omega arith), largest-below k (y ∷ xs) (omega arith) (λ i g. h (suc i) (omega arith)))
+
 -- ---- each score is at most 100, and so a pass may begin at 100
 
 pub score-at : (scores : List ℕ) (i : ℕ) → areScores scores ≡ true → i < length scores → getD scores i 0 ≤ mostScore

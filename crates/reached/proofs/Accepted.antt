@@ -7,13 +7,13 @@ use contract.Lifetimes.{Lfts}
 use denote.Ref.{RefT, now}
 use denote.Triple.Clauses.{AtExit}
 use borrow.Fn.Kinds.{endedOf}
-use Rattle.reached.specs.Reached.{judgedHour}
+use Rattle.reached.specs.Reached.{verdictOf}
 use Rattle.reached.specs.Accepted.{ThresholdFits}
-use Rattle.reached.specs.declared.Judged.{Judged}
-use Rattle.reached.proofs.Answers.{fits-threshold, hour-judged}
+use Rattle.reached.specs.declared.Verdict.{Verdict}
+use Rattle.reached.proofs.Answers.{fits-threshold, hour-verdict}
 use Rattle.reached.proofs.reached.Reads as reached
 use Rattle.reached.proofs.reached.Kinds as reached-kinds
 
-pub reached-accepted : (κs : Lfts 2) (earlier scores : RefT (List ℕ)) (threshold : ℕ) (x : Judged) (s : AtExit (endedOf 2 reached-kinds.ps reached-kinds.r) κs)
-    → reached.Post κs (earlier, (scores, (threshold, tt))) x s → ThresholdFits (now earlier) (now scores) threshold → x ≡ judgedHour (now earlier) (now scores) threshold
-reached-accepted κs earlier scores threshold x s p f = p ∙ hour-judged _ _ _ (fits-threshold _ _ _ f)
+pub reached-accepted : (κs : Lfts 2) (earlier scores : RefT (List ℕ)) (threshold : ℕ) (x : Verdict) (s : AtExit (endedOf 2 reached-kinds.ps reached-kinds.r) κs)
+    → reached.Post κs (earlier, (scores, (threshold, tt))) x s → ThresholdFits (now earlier) (now scores) threshold → x ≡ verdictOf (now earlier) (now scores) threshold
+reached-accepted κs earlier scores threshold x s p f = p ∙ hour-verdict _ _ _ (fits-threshold _ _ _ f)

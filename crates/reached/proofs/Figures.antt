@@ -6,13 +6,13 @@ use mathlib.Core.Bool.{false}
 use mathlib.Core.List.{List, [], _∷_, _++_, map}
 use lib.ListN.{replicate}
 use Rattle.whole.specs.Folds.{foldTo}
-use Rattle.reached.specs.Reached.{hourWindows, namedSecond, readIn, judgedHour}
+use Rattle.reached.specs.Reached.{hourWindows, namedSecond, readIn, verdictOf}
 
 -- some scores, then 100 in so many seconds
 abbrev hour : List ℕ → ℕ → List ℕ
 hour first n = first ++ replicate n 100
 
-four-zeros : judgedHour [] (hour (100 ∷ 0 ∷ 0 ∷ 0 ∷ 0 ∷ []) 3595) 95 ≡ record { refusal = 0; reached = false; second = 5; judged = 5; read = 14 }
+four-zeros : verdictOf [] (hour (100 ∷ 0 ∷ 0 ∷ 0 ∷ 0 ∷ []) 3595) 95 ≡ record { refusal = 0; reached = false; second = 5; judged = 5; read = 14 }
 unfolding foldTo
 four-zeros = refl
 

@@ -1,6 +1,6 @@
 -- The first window that stays below a threshold, told by each window's scores: there is none, and each has a score at or above; or it is the i-th, and each before it has one. And what is
 -- read of a window: a score at least, and no more than it has. By induction on the windows. Assumes nothing.
-use Prim.Native.Nat.{ℕ, zero, suc, _+_, _*_, _≤_, _<_}
+use Prim.Native.Nat.{ℕ, zero, suc, _+_, _≤_, _<_}
 use mathlib.Core.Path.{_≡_, refl, sym, _∙_}
 use mathlib.Core.Bool.{true, false}
 use mathlib.Core.List.{List, [], _∷_}
@@ -9,17 +9,9 @@ use native.Mathlib.Omega.{arith}
 use lib.Dec.{ltb, leb}
 use lib.ListN.{length, getD}
 use borrow.Author.Tests.{ltb-true, ltb-false}
-use Rattle.whole.specs.Folds.{foldTo, addTo}
-use Rattle.whole.proofs.Choice.{clash, by-test, and-both, both}
-use Rattle.rate.specs.Rolling.{largest}
+use Rattle.whole.proofs.Choice.{clash, by-test, and-both}
 use Rattle.reached.specs.Reached.{staysBelow, firstBelow, readIn}
 use Rattle.reached.specs.Accepted.{Below, Meets}
-
--- no score of a list is above its largest
-pub largest-most : (w : List ℕ) (k : ℕ) → k < length w → getD w k 0 ≤ largest w
-largest-most [] k h = absurd (not-suc-le-zero h)
-largest-most (x ∷ w) zero h = omega arith
-largest-most (x ∷ w) (suc k) h = omega (arith, largest-most w k (omega arith))
 
 module _ (threshold : ℕ) where
   -- ---- one window
@@ -38,12 +30,6 @@ module _ (threshold : ℕ) where
       record { back = suc (r .back); inside = omega (arith, r .inside); met = r .met })
       (λ (t : ltb x threshold ≡ false). record { back = 0; inside = omega arith; met = ltb-false x threshold t })
 
-  -- by its largest score
-  pub largest-below : (w : List ℕ) → 0 < length w → Below threshold w → largest w < threshold
-  largest-below [] l h = absurd (not-suc-le-zero l)
-  largest-below (x ∷ []) l h = omega (arith, h 0 (omega arith))
-  largest-below (x ∷ y ∷ w) l h = omega (arith, h 0 (omega arith), largest-below (y ∷ w) (omega arith) (λ k g. h (suc k) (omega arith)))
-
   -- what is read of it
   pub read-least : (w : List ℕ) → 0 < length w → 1 ≤ readIn threshold w
   read-least [] l = absurd (not-suc-le-zero l)
@@ -58,20 +44,20 @@ module _ (threshold : ℕ) where
 
   -- ---- the windows of the seconds n, n + 1, ..
 
-  pub data First (n : ℕ) (ws : List (List ℕ)) : Type 0 where
-    none-below : firstBelow threshold n ws ≡ 0 → ((j : ℕ) → j < length ws → Meets threshold (getD ws j [])) → First n ws
+  pub data FirstWindow (n : ℕ) (ws : List (List ℕ)) : Type 0 where
+    none-below : firstBelow threshold n ws ≡ 0 → ((j : ℕ) → j < length ws → Meets threshold (getD ws j [])) → FirstWindow n ws
     first-below : (i : ℕ) → firstBelow threshold n ws ≡ n + i → i < length ws → Below threshold (getD ws i [])
-        → ((j : ℕ) → j < i → Meets threshold (getD ws j [])) → First n ws
+        → ((j : ℕ) → j < i → Meets threshold (getD ws j [])) → FirstWindow n ws
 
-  pub first : (n : ℕ) (ws : List (List ℕ)) → First n ws
-  first n [] = none-below refl (λ j h. absurd (not-suc-le-zero h))
-  first n (w ∷ ws) =
+  pub first-window : (n : ℕ) (ws : List (List ℕ)) → FirstWindow n ws
+  first-window n [] = none-below refl (λ j h. absurd (not-suc-le-zero h))
+  first-window n (w ∷ ws) =
       by-test (staysBelow threshold w)
       (λ (t : staysBelow threshold w ≡ true).
       first-below 0 (rw t (omega arith)) (omega arith) (stays-below w t) (λ j h. absurd (not-suc-le-zero h)))
-      (λ (t : staysBelow threshold w ≡ false). later t (meets w t) (first (n + 1) ws))
+      (λ (t : staysBelow threshold w ≡ false). later t (meets w t) (first-window (n + 1) ws))
     where
-      later : staysBelow threshold w ≡ false → Meets threshold w → First (n + 1) ws → First n (w ∷ ws)
+      later : staysBelow threshold w ≡ false → Meets threshold w → FirstWindow (n + 1) ws → FirstWindow n (w ∷ ws)
       later t r (none-below e each) = none-below (rw t e) (after r each)
         where
           after : Meets threshold w → ((j : ℕ) → j < length ws → Meets threshold (getD ws j [])) → (j : ℕ) → j < length (w ∷ ws) → Meets threshold (getD (w ∷ ws) j [])
@@ -86,12 +72,3 @@ module _ (threshold : ℕ) where
 -- no window both stays below and meets a threshold; and one that stays below a threshold stays below a higher one
 pub not-both {ℓ} : {X : Type ℓ} (t u : ℕ) (w : List ℕ) → t ≤ u → Below t w → Meets u w → X
 not-both t u w h b r = absurd (omega (arith, b (r .back) (r .inside), r .met))
-
--- a sum of so many terms of 1 to 4
-pub sum-four : (n : ℕ) (f : ℕ → ℕ) → ((k : ℕ) → k < n → (1 ≤ f k) × (f k ≤ 4)) → (n ≤ addTo n f) × (addTo n f ≤ 4 * n)
-unfolding foldTo
-sum-four zero f h = (omega arith, omega arith)
-sum-four (suc n) f h =
-    let s = sum-four n f (λ k l. h k (omega arith)) in
-    let t = h n (omega arith) in
-    (omega arith, omega arith)

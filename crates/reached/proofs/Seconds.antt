@@ -10,15 +10,25 @@ use lib.Dec.{eqb, leb, ltb}
 use lib.ListN.{length, getD, List·getD-map}
 use borrow.Author.Tests.{eq-eqb, ne-eqb, le-leb, lt-leb, ltb-true, ltb-false}
 use Rattle.whole.proofs.Choice.{by-test, kept-any}
+use Rattle.whole.proofs.Folds.{add-between}
 use Rattle.units.specs.Limits.{secondsOfHour}
 use Rattle.rate.specs.Rolling.{largest, smallest, rolling}
-use Rattle.rate.proofs.Rates.{length-rolling, smallest-least, smallest-most}
-use Rattle.reached.specs.Reached.{hourWindows, namedSecond, secondsJudged, scoresRead, judgedRefusal, hourReached}
-use Rattle.reached.specs.Accepted.{windowAt, Meets, FirstBelow}
-use Rattle.reached.specs.declared.Judged.{Judged}
+use Rattle.rate.proofs.Rates.{length-rolling, smallest-least, smallest-most, largest-most, largest-below}
+use Rattle.reached.specs.Reached.{hourWindows, windowAt, namedSecond, secondsJudged, readIn, scoresRead, verdictRefusal, hourReached}
+use Rattle.reached.specs.Accepted.{Meets, FirstBelow}
+use Rattle.reached.specs.declared.Verdict.{Verdict}
 use Rattle.reached.proofs.Windows.{window-count, window-long}
 use Rattle.reached.proofs.Answers.{threshold-fits}
-use Rattle.reached.proofs.First.{First, none-below, first-below, first, not-both, largest-below, largest-most, read-least, read-most, sum-four}
+use Rattle.reached.proofs.First.{FirstWindow, none-below, first-below, first-window, not-both, read-least, read-most}
+
+module _ (earlier scores : List ℕ) where
+  -- the rolling rate of a second is its window's largest score
+  rolling-window : (i : ℕ) → getD (rolling earlier scores) i 0 ≡ largest (windowAt earlier scores i)
+  unfolding rolling
+  rolling-window i = List·getD-map largest (hourWindows earlier scores) i []
+
+  pub nonempty : (i : ℕ) → i < length scores → 0 < length (windowAt earlier scores i)
+  nonempty i h = omega (arith, window-long earlier scores i h)
 
 module _ (earlier scores : List ℕ) (threshold : ℕ) where
   pub data Named : Type 0 where
@@ -27,20 +37,12 @@ module _ (earlier scores : List ℕ) (threshold : ℕ) where
 
 module _ (earlier scores : List ℕ) (threshold : ℕ) (long : length scores ≡ secondsOfHour) where
   pub named : Named earlier scores threshold
-  named = told (first threshold 1 (hourWindows earlier scores))
+  named = told (first-window threshold 1 (hourWindows earlier scores))
     where
-      told : First threshold 1 (hourWindows earlier scores) → Named earlier scores threshold
+      told : FirstWindow threshold 1 (hourWindows earlier scores) → Named earlier scores threshold
       told (none-below e each) = no-second e (λ j h. each j (omega (arith, window-count earlier scores)))
       told (first-below i e l b before) =
           the-second i (e ∙ omega arith) (record { within = omega (arith, window-count earlier scores); below = b; before = before })
-
-  -- the rolling rate of a second is its window's largest score
-  rolling-at : (i : ℕ) → getD (rolling earlier scores) i 0 ≡ largest (windowAt earlier scores i)
-  unfolding rolling
-  rolling-at i = List·getD-map largest (hourWindows earlier scores) i []
-
-  pub nonempty : (i : ℕ) → i < length scores → 0 < length (windowAt earlier scores i)
-  nonempty i h = omega (arith, window-long earlier scores i h)
 
   -- none is named exactly where the hourly rate is at least the threshold
   pub named-rate : eqb (namedSecond earlier scores threshold) 0 ≡ leb threshold (smallest (rolling earlier scores))
@@ -51,13 +53,13 @@ module _ (earlier scores : List ℕ) (threshold : ℕ) (long : length scores ≡
           let over = smallest-most threshold (rolling earlier scores) (omega (arith, length-rolling earlier scores))
           (λ i h.
           let r = each i (omega (arith, length-rolling earlier scores)) in
-          omega (arith, rolling-at i, r .met, largest-most (windowAt earlier scores i) (r .back) (r .inside))) in
+          omega (arith, rolling-window earlier scores i, r .met, largest-most (windowAt earlier scores i) (r .back) (r .inside))) in
           eq-eqb _ 0 e ∙ sym (le-leb threshold (smallest (rolling earlier scores)) over)
       told (the-second i e f) =
           let inside : i < length scores = omega (arith, f .within) in
-          let under = largest-below threshold (windowAt earlier scores i) (nonempty i inside) (f .below) in
+          let under = largest-below threshold (windowAt earlier scores i) (nonempty earlier scores i inside) (f .below) in
           let least = smallest-least (rolling earlier scores) i (omega (arith, length-rolling earlier scores)) in
-          ne-eqb _ 0 (λ (z : namedSecond earlier scores threshold ≡ 0). absurd (omega arith)) ∙ sym (lt-leb threshold (smallest (rolling earlier scores)) (omega (arith, rolling-at i)))
+          ne-eqb _ 0 (λ (z : namedSecond earlier scores threshold ≡ 0). absurd (omega arith)) ∙ sym (lt-leb threshold (smallest (rolling earlier scores)) (omega (arith, rolling-window earlier scores i)))
 
   named-within : namedSecond earlier scores threshold ≤ secondsOfHour
   named-within = told named
@@ -77,11 +79,13 @@ module _ (earlier scores : List ℕ) (threshold : ℕ) (long : length scores ≡
   -- one to four scores a second judged
   pub read-within : (secondsJudged earlier scores threshold ≤ scoresRead earlier scores threshold) × (scoresRead earlier scores threshold ≤ 4 * secondsJudged earlier scores threshold)
   read-within =
-      sum-four (secondsJudged earlier scores threshold) _
+      let b =
+      add-between 1 4 (secondsJudged earlier scores threshold) (λ i. readIn threshold (windowAt earlier scores i))
       (λ k l.
       let h : k < length scores = omega (arith, judged-within .1) in
       let w = windowAt earlier scores k in
-      (read-least threshold w (nonempty k h), omega (arith, read-most threshold w, window-long earlier scores k h)))
+      (read-least threshold w (nonempty earlier scores k h), omega (arith, read-most threshold w, window-long earlier scores k h))) in
+      (omega (arith, b .0), b .1)
 
 -- whatever was handed in, the answer's numbers are small
 pub answer-within : (earlier scores : List ℕ) (threshold : ℕ) →
@@ -89,7 +93,7 @@ pub answer-within : (earlier scores : List ℕ) (threshold : ℕ) →
     (a .second ≤ secondsOfHour) × (a .judged ≤ secondsOfHour) × (a .read ≤ 4 * secondsOfHour)
 unfolding hourReached
 answer-within earlier scores threshold =
-    kept-any (λ (a : Judged). (a .second ≤ secondsOfHour) × (a .judged ≤ secondsOfHour) × (a .read ≤ 4 * secondsOfHour)) (judgedRefusal earlier scores threshold)
+    kept-any (λ (a : Verdict). (a .second ≤ secondsOfHour) × (a .judged ≤ secondsOfHour) × (a .read ≤ 4 * secondsOfHour)) (verdictRefusal earlier scores threshold)
     (λ e.
     let long = threshold-fits earlier scores threshold e .scored .long in
     let j = judged-within earlier scores threshold long in
@@ -98,8 +102,8 @@ answer-within earlier scores threshold =
     (omega arith, omega arith, omega arith)
 
 -- there is one first second at most
-pub first-only : (earlier scores : List ℕ) (threshold i j : ℕ) → FirstBelow earlier scores threshold i → FirstBelow earlier scores threshold j → i ≡ j
-first-only earlier scores threshold i j f g =
+one-first : (earlier scores : List ℕ) (threshold i j : ℕ) → FirstBelow earlier scores threshold i → FirstBelow earlier scores threshold j → i ≡ j
+one-first earlier scores threshold i j f g =
     by-test (ltb i j)
     (λ (t : ltb i j ≡ true). clashing i j f g (ltb-true i j t))
     (λ (t : ltb i j ≡ false).
@@ -109,6 +113,11 @@ first-only earlier scores threshold i j f g =
   where
     clashing : {X : Type 0} (i j : ℕ) → FirstBelow earlier scores threshold i → FirstBelow earlier scores threshold j → i < j → X
     clashing i j f g h = not-both threshold threshold (windowAt earlier scores i) (omega arith) (f .below) (g .before i h)
+
+-- and it is the one that is named
+pub first-named : (earlier scores : List ℕ) (threshold i : ℕ) → Named earlier scores threshold → FirstBelow earlier scores threshold i → namedSecond earlier scores threshold ≡ i + 1
+first-named earlier scores threshold i (no-second e each) f = not-both threshold threshold (windowAt earlier scores i) (omega arith) (f .below) (each i (f .within))
+first-named earlier scores threshold i (the-second j e g) f = let same = one-first earlier scores threshold j i g f in e ∙ omega arith
 
 -- where a threshold names a second, a higher one names that second or an earlier one
 pub higher : (earlier scores : List ℕ) (t u : ℕ) → t ≤ u → Named earlier scores t → Named earlier scores u → (namedSecond earlier scores t ≡ 0 → ⊥)

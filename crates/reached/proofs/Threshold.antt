@@ -12,29 +12,30 @@ use denote.Ref.{RefT, now}
 use denote.Triple.Clauses.{AtExit}
 use borrow.Author.Tests.{eq-eqb}
 use borrow.Fn.Kinds.{endedOf}
-use Rattle.units.specs.Limits.{secondsOfHour}
+use Rattle.whole.specs.Choice.{pick}
+use Rattle.units.specs.Limits.{mostScore, secondsOfHour}
 use Rattle.rate.specs.declared.Rated.{Rated}
 use Rattle.rate.proofs.Rates.{rate-granted}
 use Rattle.rate.proofs.hourly_rate.Reads as hourly-rate
 use Rattle.rate.proofs.hourly_rate.Kinds as hourly-rate-kinds
-use Rattle.reached.specs.Reached.{judgedHour, hourReached}
-use Rattle.reached.specs.Accepted.{ThresholdFits, windowAt, Meets, FirstBelow}
-use Rattle.reached.specs.declared.Judged.{Judged}
-use Rattle.reached.proofs.Answers.{threshold-fits, judged-refusal, hour-judged}
-use Rattle.reached.proofs.Seconds.{Named, no-second, the-second, named, nonempty, named-rate, judged-within, read-within, higher}
+use Rattle.reached.specs.Reached.{windowAt, verdictOf, hourReached}
+use Rattle.reached.specs.Accepted.{ThresholdFits, Meets, FirstBelow}
+use Rattle.reached.specs.declared.Verdict.{Verdict}
+use Rattle.reached.proofs.Answers.{threshold-fits, fits-threshold, verdict-refusal, hour-verdict}
+use Rattle.reached.proofs.Seconds.{Named, no-second, the-second, named, nonempty, named-rate, judged-within, read-within, first-named, higher}
 use Rattle.reached.proofs.reached.Reads as reached
 use Rattle.reached.proofs.reached.Kinds as reached-kinds
 
 -- a granted answer is what the definitions say, of what fits
-plain : (earlier scores : List ℕ) (threshold : ℕ) (x : Judged) → x ≡ hourReached earlier scores threshold → x .refusal ≡ 0
-    → ThresholdFits earlier scores threshold × (x ≡ judgedHour earlier scores threshold)
+plain : (earlier scores : List ℕ) (threshold : ℕ) (x : Verdict) → x ≡ hourReached earlier scores threshold → x .refusal ≡ 0
+    → ThresholdFits earlier scores threshold × (x ≡ verdictOf earlier scores threshold)
 plain earlier scores threshold x p z =
-    let none = sym (judged-refusal earlier scores threshold) ∙ sym (ap (λ (r : Judged). r .refusal) p) ∙ z in
-    (threshold-fits earlier scores threshold none, p ∙ hour-judged earlier scores threshold none)
+    let none = sym (verdict-refusal earlier scores threshold) ∙ sym (ap (λ (r : Verdict). r .refusal) p) ∙ z in
+    (threshold-fits earlier scores threshold none, p ∙ hour-verdict earlier scores threshold none)
 
-module _ (κs : Lfts 2) (earlier scores : RefT (List ℕ)) (threshold : ℕ) (x : Judged) (s : AtExit (endedOf 2 reached-kinds.ps reached-kinds.r) κs)
+module _ (κs : Lfts 2) (earlier scores : RefT (List ℕ)) (threshold : ℕ) (x : Verdict) (s : AtExit (endedOf 2 reached-kinds.ps reached-kinds.r) κs)
     (met : reached.Post κs (earlier, (scores, (threshold, tt))) x s) (granted : x .refusal ≡ 0) where
-  is : ThresholdFits (now earlier) (now scores) threshold × (x ≡ judgedHour (now earlier) (now scores) threshold)
+  is : ThresholdFits (now earlier) (now scores) threshold × (x ≡ verdictOf (now earlier) (now scores) threshold)
   is = plain (now earlier) (now scores) threshold x met granted
 
   -- "It says yes exactly when the hourly rate is at least the threshold": beside the answer of `hourly_rate` to the same scores, which is granted too; and it names no second exactly then
@@ -43,52 +44,63 @@ module _ (κs : Lfts 2) (earlier scores : RefT (List ℕ)) (threshold : ℕ) (x 
   reached-rate ηs y t p =
       let r = p ∙ rate-granted (now earlier) (now scores) (is .0 .scored) in
       let n = named-rate (now earlier) (now scores) threshold (is .0 .scored .long) ∙ sym (ap (λ (a : Rated). leb threshold (a .rate)) r) in
-      (ap (λ (a : Rated). a .refusal) r, ap (λ (a : Judged). a .reached) (is .1) ∙ n, ap (λ (a : Judged). eqb (a .second) 0) (is .1) ∙ n)
+      (ap (λ (a : Rated). a .refusal) r, ap (λ (a : Verdict). a .reached) (is .1) ∙ n, ap (λ (a : Verdict). eqb (a .second) 0) (is .1) ∙ n)
 
-  -- it judges the named second, or 3,600; and reads one to four scores a second judged
+  -- it judges the named second, or 3,600
+  pub reached-judged : x .judged ≡ pick (eqb (x .second) 0) secondsOfHour (x .second)
+  reached-judged = rw (is .1)
+
+  -- and reads one to four scores a second judged
   pub reached-counts : (1 ≤ x .judged) × (x .judged ≤ secondsOfHour) × (x .judged ≤ x .read) × (x .read ≤ 4 * x .judged)
   reached-counts =
       let j = judged-within (now earlier) (now scores) threshold (is .0 .scored .long) in
       let r = read-within (now earlier) (now scores) threshold (is .0 .scored .long) in
       rw (is .1) (j .0, j .1, r .0, r .1)
 
-  -- the second that it names is the first whose whole window stays below, so that every window before it reaches the threshold
+  -- the second that it names is the first whose whole window stays below, so that every window before it meets the threshold
   pub reached-first : (i : ℕ) → x .second ≡ i + 1 → FirstBelow (now earlier) (now scores) threshold i
   reached-first i e = told (named (now earlier) (now scores) threshold (is .0 .scored .long))
     where
       told : Named (now earlier) (now scores) threshold → FirstBelow (now earlier) (now scores) threshold i
-      told (no-second d each) = absurd (omega (arith, ap (λ (a : Judged). a .second) (is .1)))
+      told (no-second d each) = absurd (omega (arith, ap (λ (a : Verdict). a .second) (is .1)))
       told (the-second j d f) =
-          let same : j ≡ i = omega (arith, ap (λ (a : Judged). a .second) (is .1)) in
+          let same : j ≡ i = omega (arith, ap (λ (a : Verdict). a .second) (is .1)) in
           subst (FirstBelow (now earlier) (now scores) threshold) same f
 
-  -- where it names none, every window does
+  -- and that second is named
+  pub reached-names : (i : ℕ) → FirstBelow (now earlier) (now scores) threshold i → x .second ≡ i + 1
+  reached-names i f =
+      ap (λ (a : Verdict). a .second) (is .1)
+      ∙ first-named (now earlier) (now scores) threshold i (named (now earlier) (now scores) threshold (is .0 .scored .long)) f
+
+  -- where it names none, every window meets the threshold
   pub reached-all : x .second ≡ 0 → (j : ℕ) → j < secondsOfHour → Meets threshold (windowAt (now earlier) (now scores) j)
   reached-all e = told (named (now earlier) (now scores) threshold (is .0 .scored .long))
     where
       told : Named (now earlier) (now scores) threshold → (j : ℕ) → j < secondsOfHour → Meets threshold (windowAt (now earlier) (now scores) j)
       told (no-second d each) = each
-      told (the-second j d f) = absurd (omega (arith, ap (λ (a : Judged). a .second) (is .1)))
+      told (the-second j d f) = absurd (omega (arith, ap (λ (a : Verdict). a .second) (is .1)))
 
   -- a threshold of 0 names none, whatever the scores
   pub reached-zero : threshold ≡ 0 → (x .second ≡ 0) × (x .reached ≡ true)
   reached-zero z = told (named (now earlier) (now scores) threshold (is .0 .scored .long))
     where
       told : Named (now earlier) (now scores) threshold → (x .second ≡ 0) × (x .reached ≡ true)
-      told (no-second d each) = (ap (λ (a : Judged). a .second) (is .1) ∙ d, ap (λ (a : Judged). a .reached) (is .1) ∙ eq-eqb _ 0 d)
+      told (no-second d each) = (ap (λ (a : Verdict). a .second) (is .1) ∙ d, ap (λ (a : Verdict). a .reached) (is .1) ∙ eq-eqb _ 0 d)
       told (the-second j d f) =
           let inside : j < length (now scores) = omega (arith, f .within, is .0 .scored .long) in
-          absurd (omega (arith, f .below 0 (nonempty (now earlier) (now scores) threshold (is .0 .scored .long) j inside)))
+          absurd (omega (arith, f .below 0 (nonempty (now earlier) (now scores) j inside)))
 
-  -- where it names a second, the same scores by a higher threshold have that second named or an earlier one
-  pub reached-higher : (ηs : Lfts 2) (before also : RefT (List ℕ)) (over : ℕ) (y : Judged) (t : AtExit (endedOf 2 reached-kinds.ps reached-kinds.r) ηs)
-      → reached.Post ηs (before, (also, (over, tt))) y t → y .refusal ≡ 0 → now before ≡ now earlier → now also ≡ now scores → threshold ≤ over → (x .second ≡ 0 → ⊥)
-      → (1 ≤ y .second) × (y .second ≤ x .second)
-  reached-higher ηs before also over y t p g e f h n =
-      let e1 = now earlier in
-      let s1 = now scores in
-      let q = plain e1 s1 over y (p ∙ (λ k. hourReached (e k) (f k) over)) g in
+  -- where it names a second, the same scores by a higher threshold, up to 100, have that second named or an earlier one
+  pub reached-higher : (ηs : Lfts 2) (before also : RefT (List ℕ)) (over : ℕ) (y : Verdict) (t : AtExit (endedOf 2 reached-kinds.ps reached-kinds.r) ηs)
+      → reached.Post ηs (before, (also, (over, tt))) y t → now before ≡ now earlier → now also ≡ now scores → threshold ≤ over → over ≤ mostScore → (x .second ≡ 0 → ⊥)
+      → (y .refusal ≡ 0) × (1 ≤ y .second) × (y .second ≤ x .second)
+  reached-higher ηs before also over y t p e f h most n =
+      let own = now scores in
+      let by = now earlier in
       let long = is .0 .scored .long in
-      let first = ap (λ (a : Judged). a .second) (is .1) in
-      let second = ap (λ (a : Judged). a .second) (q .1) in
-      rw (first, second) (higher e1 s1 threshold over h (named e1 s1 threshold long) (named e1 s1 over long) (λ z. n (first ∙ z)))
+      let granted = fits-threshold by own over (record { scored = is .0 .scored; small = most }) in
+      let other = p ∙ (λ k. hourReached (e k) (f k) over) ∙ hour-verdict by own over granted in
+      let first = ap (λ (a : Verdict). a .second) (is .1) in
+      let b = higher by own threshold over h (named by own threshold long) (named by own over long) (λ z. n (first ∙ z)) in
+      (ap (λ (a : Verdict). a .refusal) other, rw other (b .0), rw (first, other) (b .1))

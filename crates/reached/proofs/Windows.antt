@@ -8,7 +8,7 @@ use native.Mathlib.Omega.{arith}
 use lib.ListN.{length, getD, length-take, length-reverse}
 use lib.Seq.{getD-take}
 use Rattle.rate.specs.Rolling.{windows}
-use Rattle.reached.specs.Reached.{hourWindows}
+use Rattle.reached.specs.Reached.{hourWindows, windowAt}
 
 -- ---- a list turned round, before another: place m
 
@@ -44,7 +44,7 @@ module _ (earlier scores : List ℕ) where
   pub window-count : length (hourWindows earlier scores) ≡ length scores
   window-count = as-many _ scores
 
-  pub window-long : (i : ℕ) → i < length scores → length (getD (hourWindows earlier scores) i []) ≡ min 4 (length earlier + i + 1)
+  pub window-long : (i : ℕ) → i < length scores → length (windowAt earlier scores i) ≡ min 4 (length earlier + i + 1)
   window-long i h = long _ scores i (length earlier) h (omega (arith, length-reverse earlier))
 
   joined : reverseAux (reverse earlier) scores ≡ earlier ++ scores
@@ -52,7 +52,7 @@ module _ (earlier scores : List ℕ) where
 
   -- k seconds back
   pub window-at : (i k : ℕ) → i < length scores → k < 4 → k ≤ length earlier + i
-      → getD (getD (hourWindows earlier scores) i []) k 0 ≡ getD (earlier ++ scores) (length earlier + i - k) 0
+      → getD (windowAt earlier scores i) k 0 ≡ getD (earlier ++ scores) (length earlier + i - k) 0
   window-at i k h f g =
       let m = length earlier + i - k in
       back-at (reverse earlier) scores i k m h f (omega (arith, length-reverse earlier)) ∙ ap (λ l. getD l m 0) joined

@@ -10,11 +10,15 @@ use Rattle.whole.specs.Folds.{addTo}
 use Rattle.units.specs.Refusals.{wrongLength, badReading, badBands}
 use Rattle.units.specs.Limits.{mostScore, secondsOfHour}
 use Rattle.rate.specs.Rolling.{windows, rateLengthsFit, areScores}
-use Rattle.reached.specs.declared.Judged.{Judged}
+use Rattle.reached.specs.declared.Verdict.{Verdict}
 
--- the windows of an hour's seconds, after its earlier scores, oldest first
+-- the windows of an hour's seconds; the earlier scores are handed in oldest first
 abbrev pub hourWindows : List ℕ → List ℕ → List (List ℕ)
 hourWindows earlier scores = windows (reverse earlier) scores
+
+-- that of the second at place i, second i + 1
+abbrev pub windowAt : List ℕ → List ℕ → ℕ → List ℕ
+windowAt earlier scores i = getD (hourWindows earlier scores) i []
 
 -- "whose whole window stays below the threshold"
 abbrev pub staysBelow : ℕ → List ℕ → Bool
@@ -41,22 +45,25 @@ readIn threshold (x ∷ window) = 1 + pick (leb threshold x) 0 (readIn threshold
 
 -- "The scores so read are counted too": those of the windows of the seconds judged
 abbrev pub scoresRead : List ℕ → List ℕ → ℕ → ℕ
-scoresRead earlier scores threshold = addTo (secondsJudged earlier scores threshold) (λ i. readIn threshold (getD (hourWindows earlier scores) i []))
+scoresRead earlier scores threshold = addTo (secondsJudged earlier scores threshold) (λ i. readIn threshold (windowAt earlier scores i))
 
 -- "Refusals: 1, then 4 for a score above 100, then 5 for the threshold"
-unfoldable pub judgedRefusal : List ℕ → List ℕ → ℕ → ℕ
-judgedRefusal earlier scores threshold =
-    inOrder ((rateLengthsFit (length earlier) (length scores), wrongLength) ∷ (areScores earlier && areScores scores, badReading) ∷ (leb threshold mostScore, badBands) ∷ [])
+abbrev pub verdictTests : List ℕ → List ℕ → ℕ → List (Bool × ℕ)
+verdictTests earlier scores threshold =
+    (rateLengthsFit (length earlier) (length scores), wrongLength) ∷ (areScores earlier && areScores scores, badReading) ∷ (leb threshold mostScore, badBands) ∷ []
+
+unfoldable pub verdictRefusal : List ℕ → List ℕ → ℕ → ℕ
+verdictRefusal earlier scores threshold = inOrder (verdictTests earlier scores threshold)
 
 -- an hour that is judged: reached exactly where no second is named
-abbrev pub judgedHour : List ℕ → List ℕ → ℕ → Judged
-judgedHour earlier scores threshold =
+abbrev pub verdictOf : List ℕ → List ℕ → ℕ → Verdict
+verdictOf earlier scores threshold =
     let t = namedSecond earlier scores threshold in
     record { refusal = 0; reached = eqb t 0; second = t; judged = secondsJudged earlier scores threshold; read = scoresRead earlier scores threshold }
 
 -- one that is refused: every field 0, and the answer no
-abbrev pub notJudged : ℕ → Judged
-notJudged k = record { refusal = k; reached = false; second = 0; judged = 0; read = 0 }
+abbrev pub noVerdict : ℕ → Verdict
+noVerdict k = record { refusal = k; reached = false; second = 0; judged = 0; read = 0 }
 
-unfoldable pub hourReached : List ℕ → List ℕ → ℕ → Judged
-hourReached earlier scores threshold = let k = judgedRefusal earlier scores threshold in kept k (judgedHour earlier scores threshold) (notJudged k)
+unfoldable pub hourReached : List ℕ → List ℕ → ℕ → Verdict
+hourReached earlier scores threshold = let k = verdictRefusal earlier scores threshold in kept k (verdictOf earlier scores threshold) (noVerdict k)

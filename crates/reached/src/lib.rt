@@ -1,19 +1,17 @@
 // Did an hour reach a threshold? The first second whose whole window stays below it, and what is judged and read to
 // find it.
 ghost use mathlib.Core.Path.{_≡_};
-ghost use mathlib.Core.Bool.{true};
 ghost use mathlib.Core.List.{_++_};
 ghost use Prim.Native.Nat.{_+_, _-_, _≤_, _<_, min};
 ghost use lib.ListN.{length, getD};
 ghost use Rattle.units.specs.Limits.{secondsOfHour};
-ghost use Rattle.rate.specs.Rolling.{earlierFit};
-ghost use Rattle.reached.specs.Reached.{judgedRefusal, judgedHour, notJudged, hourReached};
+ghost use Rattle.reached.specs.Reached.{verdictRefusal, verdictOf, noVerdict, hourReached};
 use units::limits;
 use units::refusals;
 
 // Whether the hour reached the threshold; the first second whose window stays below it, 0 where there is none; how many
 // seconds were judged, and how many scores read. Or the refusal, with no and zeros.
-pub struct Judged {
+pub struct Verdict {
     pub refusal: u8,
     pub reached: bool,
     pub second: usize,
@@ -22,19 +20,19 @@ pub struct Judged {
 }
 
 // 3,600 scores, after the last three of the hour before, oldest first, or none.
-pub fn reached(earlier: &[u8], scores: &[u8], threshold: u8) -> Judged
+pub fn reached(earlier: &[u8], scores: &[u8], threshold: u8) -> Verdict
     ensures { λ r. ⌜ r ≡ hourReached (now (earlier .entry)) (now (scores .entry)) threshold ⌝ }
 {
     let number = refusal(earlier, scores, threshold);
     if number != 0 {
-        return not_judged(number);
+        return no_verdict(number);
     }
-    judge(earlier, scores, threshold)
+    first_below(earlier, scores, threshold)
 }
 
 // 1, 4, 5.
 fn refusal(earlier: &[u8], scores: &[u8], threshold: u8) -> u8
-    ensures { λ r. ⌜ r ≡ judgedRefusal (now (earlier .entry)) (now (scores .entry)) threshold ⌝ }
+    ensures { λ r. ⌜ r ≡ verdictRefusal (now (earlier .entry)) (now (scores .entry)) threshold ⌝ }
 {
     let limit = whole::unless(threshold <= limits::SCORE, refusals::BAD_BANDS, 0);
     let all = rate::are_scores(earlier) & rate::are_scores(scores);
@@ -43,10 +41,10 @@ fn refusal(earlier: &[u8], scores: &[u8], threshold: u8) -> u8
     whole::unless(lengths, refusals::WRONG_LENGTH, readings)
 }
 
-fn not_judged(number: u8) -> Judged
-    ensures { λ r. ⌜ r ≡ notJudged number ⌝ }
+fn no_verdict(number: u8) -> Verdict
+    ensures { λ r. ⌜ r ≡ noVerdict number ⌝ }
 {
-    Judged {
+    Verdict {
         refusal: number,
         reached: false,
         second: 0,
@@ -55,17 +53,17 @@ fn not_judged(number: u8) -> Judged
     }
 }
 
-// Second by second, each window from its newest score back, as long as they are below the threshold. A window that ends
-// so ends the hour.
-fn judge(earlier: &[u8], scores: &[u8], threshold: u8) -> Judged
-    requires { ⌜ (earlierFit (length (now earlier)) ≡ true) × (length (now scores) ≡ secondsOfHour) ⌝ }
-    ensures { λ r. ⌜ r ≡ judgedHour (now (earlier .entry)) (now (scores .entry)) threshold ⌝ }
+// Second by second, each window from its newest score back. A score at or above the threshold ends its window, and the
+// next second is judged; a window read to its end stays below, its second is named, and the hour is left.
+fn first_below(earlier: &[u8], scores: &[u8], threshold: u8) -> Verdict
+    requires { ⌜ length (now scores) ≡ secondsOfHour ⌝ }
+    ensures { λ r. ⌜ r ≡ verdictOf (now (earlier .entry)) (now (scores .entry)) threshold ⌝ }
 {
     let mut read = 0;
     let mut i = 0;
     'seconds: loop {
         if scores.len() <= i {
-            break 'seconds Judged {
+            break 'seconds Verdict {
                 refusal: 0,
                 reached: true,
                 second: 0,
@@ -73,37 +71,34 @@ fn judge(earlier: &[u8], scores: &[u8], threshold: u8) -> Judged
                 read,
             };
         }
-        let mut score = scores[i];
-        read += 1;
-        let width = width(earlier.len(), i);
+        let width = width(earlier.len() + i);
         let mut k = 0;
-        while score < threshold {
-            k += 1;
-            if k == width {
-                let second = i + 1;
-                break 'seconds Judged {
-                    refusal: 0,
-                    reached: false,
-                    second,
-                    judged: second,
-                    read,
-                };
-            }
-            score = score_back(earlier, scores, i, k);
+        while k < width {
+            let score = score_back(earlier, scores, i, k);
             read += 1;
+            if threshold <= score {
+                i += 1;
+                continue 'seconds;
+            }
+            k += 1;
         }
-        i += 1;
+        let second = i + 1;
+        break 'seconds Verdict {
+            refusal: 0,
+            reached: false,
+            second,
+            judged: second,
+            read,
+        };
     }
 }
 
-// How many scores the window at place i has, by how many earlier scores there are: four, but for the first three where
-// there are none.
-fn width(earlier: usize, i: usize) -> usize
-    requires { ⌜ earlierFit earlier ≡ true ⌝ }
-    ensures { λ r. ⌜ r ≡ min 4 (earlier + i + 1) ⌝ }
+// How many scores a window has, by how many there are before its newest.
+fn width(before: usize) -> usize
+    ensures { λ r. ⌜ r ≡ min 4 (before + 1) ⌝ }
 {
-    if (earlier == 0) & (i < limits::EARLIER) {
-        return i + 1;
+    if before < limits::EARLIER {
+        return before + 1;
     }
     4
 }

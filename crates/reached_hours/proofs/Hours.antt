@@ -30,8 +30,8 @@ use Rattle.sreg_hour.proofs.Accepted.{sreg-scores-fit, sreg-hour-accepted}
 use Rattle.sreg_hour.proofs.sreg_hour.Reads as sreg-hour-reads
 use Rattle.sreg_hour.proofs.sreg_hour.Kinds as sreg-hour-kinds
 use Rattle.reached.specs.Reached.{hourReached}
-use Rattle.reached.specs.declared.Judged.{Judged}
-use Rattle.reached.proofs.Answers.{fits-threshold, hour-judged}
+use Rattle.reached.specs.declared.Verdict.{Verdict}
+use Rattle.reached.proofs.Answers.{fits-threshold, hour-verdict}
 use Rattle.reached.proofs.Seconds.{named-rate}
 use Rattle.reached.proofs.reached.Reads as reached
 use Rattle.reached.proofs.reached.Kinds as reached-kinds
@@ -50,14 +50,14 @@ sreg-left-fit h run scores r answer left none =
 
 -- ---- a call of `reached`, on any threshold up to 100
 
-module _ (κs : Lfts 2) (earlier scores : RefT (List ℕ)) (threshold : ℕ) (x : Judged) (s : AtExit (endedOf 2 reached-kinds.ps reached-kinds.r) κs)
+module _ (κs : Lfts 2) (earlier scores : RefT (List ℕ)) (threshold : ℕ) (x : Verdict) (s : AtExit (endedOf 2 reached-kinds.ps reached-kinds.r) κs)
     (met : reached.Post κs (earlier, (scores, (threshold, tt))) x s) (small : threshold ≤ mostScore) where
   -- beside any rate that is the smallest rolling rate
   judged : (before own : List ℕ) (rate : ℕ) → now earlier ≡ before → now scores ≡ own → ScoresFit before own → rate ≡ smallest (rolling before own)
       → (x .refusal ≡ 0) × (x .reached ≡ leb threshold rate)
   judged before own rate e f fits is =
-      let a = met ∙ (λ i. hourReached (e i) (f i) threshold) ∙ hour-judged before own threshold (fits-threshold before own threshold (record { scored = fits; small = small })) in
-      (ap (λ (y : Judged). y .refusal) a, ap (λ (y : Judged). y .reached) a ∙ named-rate before own threshold (fits .long) ∙ ap (leb threshold) (sym is))
+      let a = met ∙ (λ i. hourReached (e i) (f i) threshold) ∙ hour-verdict before own threshold (fits-threshold before own threshold (record { scored = fits; small = small })) in
+      (ap (λ (y : Verdict). y .refusal) a, ap (λ (y : Verdict). y .reached) a ∙ named-rate before own threshold (fits .long) ∙ ap (leb threshold) (sym is))
 
   pub dreg-hour-reached : (ηs : Lfts 6) (a : Dens ηs dreg-kinds.ps) (r : Settlement) (t : AtExit (endedOf 6 dreg-kinds.ps dreg-kinds.r) ηs) → dreg-reads.Post ηs a r t → r .refusal ≡ 0
       → now earlier ≡ dRegHanded ηs a .earlier → now scores ≡ dRegRun ηs t → (x .refusal ≡ 0) × (x .reached ≡ leb threshold (r .rate))

@@ -15,7 +15,7 @@ use Rattle.units.specs.Limits.{isFrequency, isPattern}
 use Rattle.curve.specs.Curve.{curveAt}
 use Rattle.score.specs.Score.{secondRefusal, secondScore}
 use Rattle.rate.specs.Rolling.{scoresRefusal, hourlyRate}
-use Rattle.reached.specs.Reached.{judgedRefusal, hourReached}
+use Rattle.reached.specs.Reached.{verdictRefusal, hourReached}
 use Rattle.bands.specs.Bands as bands
 use Rattle.bands.specs.Bands.{factorRefusal, factorAnswer}
 use Rattle.fees.specs.Fees.{chargeRefusal, feeAnswer, qualityRefusal, qualityAnswer, energyRefusal, energyAnswer, chargeOf, noCharge}
@@ -56,7 +56,7 @@ refused Curve n counted earlier t f = by-test (isFrequency (number n 0)) (λ e. 
 refused Score n counted earlier t f = by-test (eqb (secondRefusal (kilowatts (number n 0)) (kilowatts (number n 1)) (kilowatts (number n 2)) (millihertz (number n 3))) 0) (λ e. absurd (f (rw e))) (λ e. rw e)
 refused Rate n true earlier t f = by-test (eqb (scoresRefusal (scoresIn earlier) (scoresIn t)) 0) (λ e. absurd (f (rw e))) (λ e. rw e)
 refused Rate n false earlier t f = refl
-refused Reached n true earlier t f = by-test (eqb (judgedRefusal (scoresIn earlier) (scoresIn t) (byteOf (number n 0))) 0) (λ e. absurd (f (rw e))) (λ e. rw e)
+refused Reached n true earlier t f = by-test (eqb (verdictRefusal (scoresIn earlier) (scoresIn t) (byteOf (number n 0))) 0) (λ e. absurd (f (rw e))) (λ e. rw e)
 refused Reached n false earlier t f = refl
 refused Bands n counted earlier t f = refl
 refused Factor n counted earlier t f = by-test (arePairs t) (λ e. looked-up n t e f) (λ e. rw e)

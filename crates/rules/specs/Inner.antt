@@ -1,4 +1,4 @@
--- What only mirrors the code: how many fields an answer has, and at most three of them in an array of twelve.
+-- What only mirrors the code: how many fields an answer has, and at most four of them in an array of twelve.
 use Prim.Native.Nat.{ℕ}
 use mathlib.Core.List.{_∷_}
 use lib.IntN.{ℤ, pos}
@@ -22,6 +22,6 @@ fieldCount Energy = 1
 fieldCount Loss = 3
 fieldCount Pair = 2
 
--- at most three of them as the code holds them
-abbrev pub few : ℕ → ℕ → ℤ → ℤ → ℤ → Few
-few refusal count a b c = record { refusal = refusal; count = count; values = a ∷ b ∷ c ∷ replicate 9 (pos 0) }
+-- at most four of them as the code holds them
+abbrev pub few : ℕ → ℕ → ℤ → ℤ → ℤ → ℤ → Few
+few refusal count a b c d = record { refusal = refusal; count = count; values = a ∷ b ∷ c ∷ d ∷ replicate 8 (pos 0) }

@@ -14,8 +14,8 @@ use Rattle.curve.specs.Curve.{curveAt}
 use Rattle.score.specs.Score.{secondScore}
 use Rattle.rate.specs.Rolling.{hourlyRate, noRate}
 use Rattle.rate.specs.declared.Rated.{Rated}
-use Rattle.reached.specs.Reached.{hourReached, notJudged}
-use Rattle.reached.specs.declared.Judged.{Judged}
+use Rattle.reached.specs.Reached.{hourReached, noVerdict}
+use Rattle.reached.specs.declared.Verdict.{Verdict}
 use Rattle.bands.specs.Bands.{bandsFit, factorAnswer}
 use Rattle.bands.specs.declared.Factored.{Factored}
 use Rattle.fees.specs.Fees.{feeAnswer, qualityAnswer, energyAnswer}
@@ -47,15 +47,15 @@ rateAsked counted earlier t = pick counted (hourlyRate (scoresIn earlier) (score
 unfoldable pub rateReply : Bool → List ℤ → List ℤ → Reply
 rateReply counted earlier t = let a = rateAsked counted earlier t in reply (a .refusal) (pos (a .rate) ∷ [])
 
--- THRESHOLD E, then E earlier scores, then 3,600 scores: refusal, reached (1 yes, 0 no), second, seconds judged, scores read (document 02, #106). E as above
-abbrev pub reachedAsked : List ℤ → Bool → List ℤ → List ℤ → Judged
-reachedAsked n counted earlier t = pick counted (hourReached (scoresIn earlier) (scoresIn t) (byteOf (number n 0))) (notJudged wrongLength)
+-- THRESHOLD E, then E earlier scores, then 3,600 scores: refusal, reached (1 yes, 0 no), second, seconds judged, scores read (document 02, #106). A THRESHOLD outside 0 to 255 is taken as 255; E as above
+abbrev pub reachedAsked : List ℤ → Bool → List ℤ → List ℤ → Verdict
+reachedAsked n counted earlier t = pick counted (hourReached (scoresIn earlier) (scoresIn t) (byteOf (number n 0))) (noVerdict wrongLength)
 
-abbrev pub judgedReply : Judged → Reply
-judgedReply a = reply (a .refusal) (pos (pick (a .reached) 1 0) ∷ pos (a .second) ∷ pos (a .judged) ∷ pos (a .read) ∷ [])
+abbrev pub verdictReply : Verdict → Reply
+verdictReply a = reply (a .refusal) (pos (pick (a .reached) 1 0) ∷ pos (a .second) ∷ pos (a .judged) ∷ pos (a .read) ∷ [])
 
 unfoldable pub reachedReply : List ℤ → Bool → List ℤ → List ℤ → Reply
-reachedReply n counted earlier t = judgedReply (reachedAsked n counted earlier t)
+reachedReply n counted earlier t = verdictReply (reachedAsked n counted earlier t)
 
 -- how many pairs there are
 abbrev pub pairs : List ℤ → ℕ

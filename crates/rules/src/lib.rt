@@ -8,9 +8,9 @@ ghost use Rattle.units.specs.Limits.{secondsOfHour};
 ghost use Rattle.bands.specs.Bands.{factorAnswer};
 ghost use Rattle.words.specs.Inner.{boxed};
 ghost use Rattle.numbers.specs.Numbers.{column, scoresIn};
-ghost use Rattle.units.specs.Refusals.{wrongLength};
-ghost use Rattle.reached.specs.Reached.{hourReached, notJudged};
-ghost use Rattle.rules.specs.Rules.{factorIn, kilowattsReply, curveReply, scoreReply, rateReply, reachedReply, judgedReply, bandsReply};
+ghost use Rattle.reached.specs.Reached.{hourReached};
+ghost use Rattle.rules.specs.Rules.{factorIn, kilowattsReply, curveReply, scoreReply, rateReply, bandsReply};
+ghost use Rattle.rules.specs.Rules.{reachedReply, verdictReply};
 ghost use Rattle.rules.specs.Inner.{few};
 ghost use Rattle.rules.specs.Rules.{factorReply, chargeReply, feeReply, qualityReply, energyReply, lossReply, pairBitsReply, pairReply, ruleReply};
 use bands::Factored;
@@ -51,17 +51,17 @@ fn kilowatts(head: [i64; 12]) -> Few
 {
     let converted = units::to_kilowatts(Megawatts(head[0]));
     let power = converted.power;
-    few(converted.refusal, 1, power.0, 0, 0)
+    few(converted.refusal, 1, power.0, 0, 0, 0)
 }
 
-// An answer of at most three fields: the refusal's number, the fields, zeros after them.
-fn few(refusal: u8, count: usize, a: i64, b: i64, c: i64) -> Few
-    ensures { λ r. ⌜ r ≡ few refusal count a b c ⌝ }
+// An answer of at most four fields: the refusal's number, the fields, zeros after them.
+fn few(refusal: u8, count: usize, a: i64, b: i64, c: i64, d: i64) -> Few
+    ensures { λ r. ⌜ r ≡ few refusal count a b c d ⌝ }
 {
     Few {
         refusal,
         count,
-        values: [a, b, c, 0, 0, 0, 0, 0, 0, 0, 0, 0],
+        values: [a, b, c, d, 0, 0, 0, 0, 0, 0, 0, 0],
     }
 }
 
@@ -69,7 +69,7 @@ fn curve(head: [i64; 12]) -> Few
     ensures { λ r. ⌜ r ≡ boxed (curveReply head) ⌝ }
 {
     let bounds = curve::curve(Millihertz(head[0]));
-    few(bounds.refusal, 2, bounds.upper, bounds.lower, 0)
+    few(bounds.refusal, 2, bounds.upper, bounds.lower, 0, 0)
 }
 
 fn score(head: [i64; 12]) -> Few
@@ -81,17 +81,14 @@ fn score(head: [i64; 12]) -> Few
         Kilowatts(head[2]),
         Millihertz(head[3]),
     );
-    few(scored.refusal, 1, scored.score as i64, 0, 0)
+    few(scored.refusal, 1, scored.score as i64, 0, 0, 0)
 }
 
 fn rate(counted: bool, earlier: &[i64], tail: &[i64]) -> Few
     ensures { λ r. ⌜ r ≡ boxed (rateReply counted (now (earlier .entry)) (now (tail .entry))) ⌝ }
 {
-    if !counted {
-        return few(refusals::WRONG_LENGTH, 1, 0, 0, 0);
-    }
-    if tail.len() != limits::SECONDS {
-        return few(refusals::WRONG_LENGTH, 1, 0, 0, 0);
+    if !(counted & (tail.len() == limits::SECONDS)) {
+        return few(refusals::WRONG_LENGTH, 1, 0, 0, 0, 0);
     }
     rated(earlier, tail)
 }
@@ -107,56 +104,41 @@ fn rated(earlier: &[i64], tail: &[i64]) -> Few
     let n = before.count;
     let first = before.scores;
     let rated = rate::hourly_rate(&first[..n], &scores);
-    few(rated.refusal, 1, rated.rate as i64, 0, 0)
+    few(rated.refusal, 1, rated.rate as i64, 0, 0, 0)
 }
 
 fn reached(head: [i64; 12], counted: bool, earlier: &[i64], tail: &[i64]) -> Few
     ensures { λ r. ⌜ r ≡ boxed (reachedReply head counted (now (earlier .entry)) (now (tail .entry))) ⌝ }
 {
     if !(counted & (tail.len() == limits::SECONDS)) {
-        return unjudged();
+        return few(refusals::WRONG_LENGTH, 4, 0, 0, 0, 0);
     }
-    judged(numbers::byte_of(head[0]), earlier, tail)
-}
-
-// The answer to one that has not as many numbers as it takes.
-fn unjudged() -> Few
-    ensures { λ r. ⌜ r ≡ boxed (judgedReply (notJudged wrongLength)) ⌝ }
-{
-    Few {
-        refusal: refusals::WRONG_LENGTH,
-        count: 4,
-        values: [0, 0, 0, 0, 0, 0, 0, 0, 0, 0, 0, 0],
-    }
+    verdict(numbers::byte_of(head[0]), earlier, tail)
 }
 
 // Whether 3,600 scores, after the earlier ones, reached a threshold.
-fn judged(threshold: u8, earlier: &[i64], tail: &[i64]) -> Few
+fn verdict(threshold: u8, earlier: &[i64], tail: &[i64]) -> Few
     requires { ⌜ length (now tail) ≡ secondsOfHour ⌝ }
-    ensures { λ r. ⌜ r ≡ boxed (judgedReply (hourReached (scoresIn (now (earlier .entry))) (scoresIn (now (tail .entry))) threshold)) ⌝ }
+    ensures { λ r. ⌜ r ≡ boxed (verdictReply (hourReached (scoresIn (now (earlier .entry))) (scoresIn (now (tail .entry))) threshold)) ⌝ }
 {
     let mut scores = [0u8; limits::SECONDS];
     numbers::fill_bytes(tail, &mut scores);
     let before = numbers::first_four(earlier);
     let n = before.count;
     let first = before.scores;
-    let judged = reached::reached(&first[..n], &scores, threshold);
-    let reached = judged.reached as i64;
-    let second = judged.second as i64;
-    let seconds = judged.judged as i64;
-    let read = judged.read as i64;
-    Few {
-        refusal: judged.refusal,
-        count: 4,
-        values: [reached, second, seconds, read, 0, 0, 0, 0, 0, 0, 0, 0],
-    }
+    let verdict = reached::reached(&first[..n], &scores, threshold);
+    let reached = verdict.reached as i64;
+    let second = verdict.second as i64;
+    let judged = verdict.judged as i64;
+    let read = verdict.read as i64;
+    few(verdict.refusal, 4, reached, second, judged, read)
 }
 
 fn bands(tail: &[i64]) -> Few
     ensures { λ r. ⌜ r ≡ boxed (bandsReply (now (tail .entry))) ⌝ }
 {
     let factored = looked_up(tail, 0);
-    few(factored.refusal, 0, 0, 0, 0)
+    few(factored.refusal, 0, 0, 0, 0, 0)
 }
 
 // The same by all pairs that there are; a number that has no other is refused with 1, and more than 16 pairs with 5,
@@ -197,7 +179,7 @@ fn factor(head: [i64; 12], tail: &[i64]) -> Few
 {
     let rate = numbers::byte_of(head[0]);
     let factored = looked_up(tail, rate);
-    few(factored.refusal, 1, factored.factor, 0, 0)
+    few(factored.refusal, 1, factored.factor, 0, 0, 0)
 }
 
 fn fee(head: [i64; 12]) -> Few
@@ -211,7 +193,7 @@ fn charge(charged: Charged) -> Few
     ensures { λ r. ⌜ r ≡ boxed (chargeReply charged) ⌝ }
 {
     let dollars = charged.dollars;
-    few(charged.refusal, 1, dollars.0, 0, 0)
+    few(charged.refusal, 1, dollars.0, 0, 0, 0)
 }
 
 fn quality(head: [i64; 12]) -> Few
@@ -235,7 +217,7 @@ fn loss(head: [i64; 12]) -> Few
     let basic = loss.basic;
     let excess = loss.excess;
     let total = loss.total;
-    few(loss.refusal, 3, basic.0, excess.0, total.0)
+    few(loss.refusal, 3, basic.0, excess.0, total.0, 0)
 }
 
 // The bits of a frequency and of a power. A number that is no pattern of 32 bits is no single.
@@ -246,7 +228,7 @@ fn pair(head: [i64; 12]) -> Few
     let power = head[1];
     let known = whole::within(frequency, 0, limits::PATTERN);
     if !(known & whole::within(power, 0, limits::PATTERN)) {
-        return few(refusals::NOT_FINITE, 2, 0, 0, 0);
+        return few(refusals::NOT_FINITE, 2, 0, 0, 0, 0);
     }
     converted(frequency as u32, power as u32)
 }
@@ -256,10 +238,10 @@ fn converted(frequency: u32, power: u32) -> Few
 {
     let got = pair::from_bits(frequency, power);
     let Logged::Finite(pair) = got else {
-        return few(refusals::NOT_FINITE, 2, 0, 0, 0);
+        return few(refusals::NOT_FINITE, 2, 0, 0, 0, 0);
     };
     let rounded = pair::convert(pair);
     let millihertz = rounded.frequency;
     let kilowatts = rounded.power;
-    few(rounded.refusal, 2, millihertz.0, kilowatts.0, 0)
+    few(rounded.refusal, 2, millihertz.0, kilowatts.0, 0, 0)
 }

@@ -1,13 +1,13 @@
 -- The laws of `foldTo`: one step, terms that agree, a fold split in two; once for any monoid, by induction on the number of terms.
--- Then what a test over all of them says of each. Assumes nothing.
-use Prim.Native.Nat.{ℕ, zero, suc, _+_, _<_}
+-- Then what a test over all of them says of each, and how large a sum is. Assumes nothing.
+use Prim.Native.Nat.{ℕ, zero, suc, _+_, _*_, _≤_, _<_}
 use mathlib.Core.Path.{_≡_, refl, sym, ap, ap₂, _∙_}
 use mathlib.Core.Bool.{Bool, true, false, _&&_, and-false}
 use mathlib.Core.Logic.{⊎-elim}
-use native.Mathlib.Nat.{le-of-suc-le-suc, not-suc-le-zero, eq-or-lt-of-le, add-zero, add-suc}
+use native.Mathlib.Nat.{le-of-suc-le-suc, not-suc-le-zero, eq-or-lt-of-le, add-zero, add-suc, mul-zero, mul-suc}
 use native.Mathlib.Numerals.{add-one}
 use native.Mathlib.Omega.{arith}
-use Rattle.whole.specs.Folds.{foldTo, allTo}
+use Rattle.whole.specs.Folds.{foldTo, addTo, allTo}
 use Rattle.whole.proofs.Choice.{both, and-both}
 
 module _ {M : Type 0} (ε : M) (op : M → M → M) where
@@ -76,3 +76,12 @@ pub all-and : (n : ℕ) (a b : ℕ → Bool) → allTo n (λ k. a k && b k) ≡ 
 unfolding foldTo
 all-and zero a b = refl
 all-and (suc n) a b = rw (all-and n a b) (cross (allTo n a) (allTo n b) (a n) (b n))
+
+-- a sum of n terms that each lie between two numbers
+pub add-between : (low high n : ℕ) (f : ℕ → ℕ) → ((k : ℕ) → k < n → (low ≤ f k) × (f k ≤ high)) → (low * n ≤ addTo n f) × (addTo n f ≤ high * n)
+unfolding foldTo
+add-between low high zero f h = (rw mul-zero (omega arith), rw mul-zero (omega arith))
+add-between low high (suc n) f h =
+    let s = add-between low high n f (λ k l. h k (omega arith)) in
+    let t = h n (omega arith) in
+    (rw mul-suc (omega arith), rw mul-suc (omega arith))

@@ -1,6 +1,6 @@
 -- `reached::refusal` meets its contract: straight-line code that mirrors the list of tests. Assumes nothing.
 use borrow.Author.Needs.{needs}
-use Rattle.reached.specs.Reached.{judgedRefusal}
+use Rattle.reached.specs.Reached.{verdictRefusal}
 use Rattle.reached.proofs.refusal.Statement.{statement}
 use Rattle.reached.proofs.refusal.Tie as tie
 
@@ -23,7 +23,7 @@ unless-requires-3 : tie.Need-unless-requires-3
 unless-requires-3 c κs = search needs
 
 returns : tie.Need-returns
-unfolding judgedRefusal
+unfolding verdictRefusal
 returns c =
     let lengths = c .before in
     let readings = lengths .before in

@@ -1,4 +1,4 @@
--- `rules::judged` meets its contract: the library's answer, field by field, whose numbers are small; the first four of the earlier scores stand for all. Assumes nothing.
+-- `rules::verdict` meets its contract: the library's answer, field by field, whose numbers are small; the first four of the earlier scores stand for all. Assumes nothing.
 use Prim.Native.Nat.{ℕ, _*_, _≤_}
 use native.Mathlib.Omega.{arith}
 use mathlib.Core.Path.{_≡_, refl, _∙_}
@@ -10,15 +10,15 @@ use mir.Facts.{toZ-ofZ}
 use Rattle.whole.specs.Choice.{pick}
 use Rattle.units.specs.Refusals.{wrongLength}
 use Rattle.units.specs.Limits.{secondsOfHour}
-use Rattle.reached.specs.Reached.{notJudged, hourReached}
+use Rattle.reached.specs.Reached.{noVerdict, hourReached}
 use Rattle.reached.proofs.Seconds.{answer-within}
 use Rattle.numbers.specs.Numbers.{scoresIn}
 use Rattle.numbers.specs.Inner.{taken}
 use Rattle.numbers.proofs.Bytes.{Lent, lent}
 use Rattle.rules.proofs.Laws.{scores-filled, four-stand, reached-unfit}
 use borrow.Author.Needs.{needs}
-use Rattle.rules.proofs.judged.Statement.{statement}
-use Rattle.rules.proofs.judged.Tie as tie
+use Rattle.rules.proofs.verdict.Statement.{statement}
+use Rattle.rules.proofs.verdict.Tie as tie
 
 slice-aggregate-fill-bytes : tie.Need-slice-aggregate-fill-bytes
 slice-aggregate-fill-bytes c = search needs
@@ -58,11 +58,14 @@ fits h = record { sfits = omega arith }
 cast-second : tie.Need-cast-second
 cast-second c = fits (omega (arith, small (c .before .before)))
 
-cast-seconds : tie.Need-cast-seconds
-cast-seconds c = fits (omega (arith, small (c .before .before .before)))
+cast-judged : tie.Need-cast-judged
+cast-judged c = fits (omega (arith, small (c .before .before .before)))
 
 cast-read : tie.Need-cast-read
 cast-read c = fits (small (c .before .before .before .before) .2)
+
+few-requires : tie.Need-few-requires
+few-requires c κs = search needs
 
 -- yes is 1, no is 0
 said : (b : Bool) → toZ w64 (boolByte b) ≡ pos (pick b 1 0)
@@ -71,7 +74,8 @@ said false = refl
 
 returns : tie.Need-returns
 returns c =
-    let b = c .before .before .before .before in
+    let d = c .before in
+    let b = d .before .before .before .before in
     let e = b .before .before .before .before in
     let f = e .before .before in
     let a = f .before .before .args in
@@ -79,11 +83,11 @@ returns c =
     let judged =
     b .reached .ensures
     ∙ (λ i. hourReached (taken (e .first-four .ensures i)) (scores i) (a .threshold))
-    ∙ four-stand (λ l k. hourReached l k (a .threshold)) (notJudged wrongLength) (reached-unfit (a .threshold)) (scoresIn (a .tail .now)) (a .earlier .now) in
-    rw (said _, toZ-ofZ (cast-second (c .before .before)), toZ-ofZ (cast-seconds (c .before)), toZ-ofZ (cast-read c), judged)
+    ∙ four-stand (λ l k. hourReached l k (a .threshold)) (noVerdict wrongLength) (reached-unfit (a .threshold)) (scoresIn (a .tail .now)) (a .earlier .now) in
+    rw (c .few .ensures, said _, toZ-ofZ (cast-second (d .before .before)), toZ-ofZ (cast-judged (d .before)), toZ-ofZ (cast-read d), judged)
 
-pub judged-spec : {M : Type 1} → statement M
-judged-spec =
+pub verdict-spec : {M : Type 1} → statement M
+verdict-spec =
     tie.close
     (tie.spec
     slice-aggregate-fill-bytes
@@ -95,6 +99,7 @@ judged-spec =
     reached-requires
     cast-reached
     cast-second
-    cast-seconds
+    cast-judged
     cast-read
+    few-requires
     returns)
