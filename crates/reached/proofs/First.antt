@@ -2,16 +2,21 @@
 -- read of a window: a score at least, and no more than it has. By induction on the windows. Assumes nothing.
 use Prim.Native.Nat.{ℕ, zero, suc, _+_, _≤_, _<_}
 use mathlib.Core.Path.{_≡_, refl, sym, _∙_}
-use mathlib.Core.Bool.{true, false}
+use mathlib.Core.Bool.{Bool, true, false}
 use mathlib.Core.List.{List, [], _∷_}
 use native.Mathlib.Nat.{not-suc-le-zero}
 use native.Mathlib.Omega.{arith}
 use lib.Dec.{ltb, leb}
 use lib.ListN.{length, getD}
 use borrow.Author.Tests.{ltb-true, ltb-false}
+use Rattle.whole.specs.Choice.{pick}
 use Rattle.whole.proofs.Choice.{clash, by-test, and-both}
 use Rattle.reached.specs.Reached.{staysBelow, firstBelow, readIn}
 use Rattle.reached.specs.Accepted.{Below, Meets}
+
+none-or-all : (b : Bool) (n : ℕ) → pick b 0 n ≤ n
+none-or-all true n = omega arith
+none-or-all false n = omega arith
 
 module _ (threshold : ℕ) where
   -- ---- one window
@@ -37,10 +42,7 @@ module _ (threshold : ℕ) where
 
   pub read-most : (w : List ℕ) → readIn threshold w ≤ length w
   read-most [] = omega arith
-  read-most (x ∷ w) =
-      by-test (leb threshold x)
-      (λ (t : leb threshold x ≡ true). rw t (omega arith))
-      (λ (t : leb threshold x ≡ false). rw t (omega (arith, read-most w)))
+  read-most (x ∷ w) = omega (arith, none-or-all (leb threshold x) (readIn threshold w), read-most w)
 
   -- ---- the windows of the seconds n, n + 1, ..
 

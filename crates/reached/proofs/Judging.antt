@@ -5,6 +5,7 @@ use mathlib.Core.Path.{_≡_, refl, sym, ap, _∙_}
 use mathlib.Core.Bool.{true, false}
 use mathlib.Core.List.{List, [], _∷_}
 use native.Mathlib.Omega.{arith}
+use lib.Dec.{leb}
 use lib.ListN.{length, drop, getD}
 use borrow.Author.Tests.{lt-ltb, le-ltb, le-leb, lt-leb, ne-eqb}
 use Rattle.whole.specs.Choice.{pick}
@@ -27,10 +28,10 @@ module _ (threshold : ℕ) (window : List ℕ) where
 
   -- what is read where the next score is not below, and where it is
   read-met : (x : ℕ) (w : List ℕ) → threshold ≤ x → readIn threshold (x ∷ w) ≡ 1
-  read-met x w h = simp (le-leb threshold x h)
+  read-met x w h = let none : pick (leb threshold x) 0 (readIn threshold w) ≡ 0 = simp (le-leb threshold x h) in omega arith
 
   read-below : (x : ℕ) (w : List ℕ) → x < threshold → readIn threshold (x ∷ w) ≡ 1 + readIn threshold w
-  read-below x w h = simp (lt-leb threshold x h)
+  read-below x w h = let all : pick (leb threshold x) 0 (readIn threshold w) ≡ readIn threshold w = simp (lt-leb threshold x h) in omega arith
 
   module _ (k : ℕ) (r : ReadTo k) where
     -- one more that is below

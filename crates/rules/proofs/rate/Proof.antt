@@ -1,12 +1,17 @@
 -- `rules::rate` meets its contract: earlier scores that are not counted, and scores of another number, are refused. Assumes nothing.
-use mathlib.Core.Path.{_≡_}
+use mathlib.Core.Path.{_≡_, sym, ap, _∙_}
 use mathlib.Core.Bool.{true, _&&_}
+use mathlib.Core.List.{[], _∷_}
 use lib.Dec.{eqb}
+use lib.IntN.{pos}
 use lib.ListN.{length}
 use borrow.Author.Tests.{not-true, not-false}
 use Rattle.units.specs.Refusals.{wrongLength}
 use Rattle.units.specs.Limits.{secondsOfHour}
 use Rattle.rate.specs.Rolling.{noRate, hourlyRate}
+use Rattle.rate.specs.declared.Rated.{Rated}
+use Rattle.words.specs.Replies.{reply}
+use Rattle.words.specs.Inner.{boxed}
 use Rattle.rules.specs.Rules.{rateReply}
 use Rattle.rules.proofs.Laws.{not-asked, asked-whole, rate-unfit}
 use borrow.Author.Needs.{needs}
@@ -22,7 +27,7 @@ returns c =
     let a = c .before .before .args in
     let t = a .tail .now in
     let n = not-true (a .counted && eqb (length t) secondsOfHour) (c .before .if1 .taken) in
-    rw (not-asked hourlyRate (noRate wrongLength) rate-unfit (a .counted) (a .earlier .now) t n) (c .few .ensures)
+    c .few .ensures ∙ sym (ap (λ (r : Rated). boxed (reply (r .refusal) (pos (r .rate) ∷ []))) (not-asked hourlyRate (noRate wrongLength) rate-unfit (a .counted) (a .earlier .now) t n))
 
 -- they are counted, and as many as the hour's seconds
 whole : (c : tie.Else1) →

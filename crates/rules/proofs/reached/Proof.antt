@@ -1,5 +1,5 @@
 -- `rules::reached` meets its contract: earlier scores that are not counted, and scores of another number, are refused. Assumes nothing.
-use mathlib.Core.Path.{_≡_, sym}
+use mathlib.Core.Path.{_≡_, sym, ap, _∙_}
 use mathlib.Core.Bool.{true, _&&_}
 use lib.Dec.{eqb}
 use lib.IntN.{pos}
@@ -12,7 +12,8 @@ use Rattle.units.specs.Refusals.{wrongLength}
 use Rattle.units.specs.Limits.{secondsOfHour}
 use Rattle.reached.specs.Reached.{noVerdict, hourReached}
 use Rattle.numbers.specs.Numbers.{number, byteOf}
-use Rattle.rules.specs.Rules.{reachedReply}
+use Rattle.words.specs.Inner.{boxed}
+use Rattle.rules.specs.Rules.{verdictReply, reachedReply}
 use Rattle.rules.proofs.Laws.{not-asked, asked-whole, reached-unfit}
 use borrow.Author.Needs.{needs}
 use Rattle.rules.proofs.reached.Statement.{statement}
@@ -28,7 +29,8 @@ returns c =
     let t = a .tail .now in
     let threshold = byteOf (number (a .t1) 0) in
     let n = not-true (a .counted && eqb (length t) secondsOfHour) (c .before .if1 .taken) in
-    rw (not-asked (λ l k. hourReached l k threshold) (noVerdict wrongLength) (reached-unfit threshold) (a .counted) (a .earlier .now) t n) (c .few .ensures)
+    c .few .ensures
+    ∙ sym (ap (λ v. boxed (verdictReply v)) (not-asked (λ l k. hourReached l k threshold) (noVerdict wrongLength) (reached-unfit threshold) (a .counted) (a .earlier .now) t n))
 
 array-copy-out-byte-of : tie.Need-array-copy-out-byte-of
 array-copy-out-byte-of c = search needs
