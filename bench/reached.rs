@@ -1,5 +1,6 @@
 // The peer of crates/bench_reached: the same questions in plain Rust, as one would write them without proofs.
-// Standard input is that of the Rattle program: how scores are drawn, the threshold, the number of earlier scores; as many questions as bytes.
+// Standard input is that of the Rattle program: how scores are drawn, the threshold, the number of earlier scores modulo 4; as many questions as
+// bytes.
 use std::io::Read;
 
 const SECONDS: usize = 3_600;

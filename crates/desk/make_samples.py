@@ -176,7 +176,7 @@ asked = [
     ("rate 101 " + "0 " * 3600, words(1, 0)),
     ("rate -1 " + "0 " * 3600, words(1, 0)),
     ("rate 3 100 256 100 " + "0 " * 3600, words(4, 0)),
-    # the request's figures: an hour of 100, one with three zeros and one with four, a threshold of 0
+    # hours of 100, without zeros, with three and with four; an hour of zeros by 0
     reached(95, [], [100] * 3600),
     reached(95, [], [100, 0, 0, 0] + [100] * 3596),
     reached(95, [], [100, 0, 0, 0, 0] + [100] * 3595),

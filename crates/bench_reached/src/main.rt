@@ -1,10 +1,10 @@
-// What is timed of the question whether an hour reached a threshold: it is asked of one hour of scores over and over.
-// Before each question one score is drawn anew, so that no hour is the one before. The input's first byte says how
-// scores are drawn, its second is the threshold, its third how many earlier scores there are; there are as many
-// questions as it has bytes, up to 65,536. Their number and a check sum are printed. The peer is bench/reached.rs.
+// What is timed of the question whether an hour reached a threshold: it is asked of one hour of scores over and over,
+// with one score drawn anew before each question. The input's first byte says how scores are drawn, its second is the
+// threshold, its third, modulo 4, how many earlier scores there are; there are as many questions as it has bytes, up to
+// 65,536. Their number and a check sum are printed. The peer is bench/reached.rs.
 //
 // It is a program of its own, so that the others' code comes to lie where it lay; a program cannot lend another its
-// module, so chance.rt is bench's.
+// module, so chance.rt is a copy of part of bench's.
 mod chance;
 
 use reached::Verdict;

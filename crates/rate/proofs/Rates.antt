@@ -172,17 +172,23 @@ module _ (earlier scores : List ℕ) where
   abbrev tests : List (Bool × ℕ)
   tests = (rateLengthsFit (length earlier) (length scores), wrongLength) ∷ (areScores earlier && areScores scores, badReading) ∷ []
 
+  -- both tests, as facts
+  pub fit-by : rateLengthsFit (length earlier) (length scores) ≡ true → (areScores earlier && areScores scores) ≡ true → ScoresFit earlier scores
+  fit-by p q =
+      let l = and-both (eqb (length scores) secondsOfHour) (earlierFit (length earlier)) p in
+      let b = and-both (areScores earlier) (areScores scores) q in
+      record { long = eqb-true (length scores) secondsOfHour (l .0); of-earlier = l .1; before = b .0; small = b .1 }
+
+  pub by-fit : ScoresFit earlier scores → (rateLengthsFit (length earlier) (length scores) ≡ true) × ((areScores earlier && areScores scores) ≡ true)
+  by-fit f = (both (eq-eqb (length scores) secondsOfHour (f .long)) (f .of-earlier), both (f .before) (f .small))
+
   pub scores-fit : scoresRefusal earlier scores ≡ 0 → ScoresFit earlier scores
   unfolding scoresRefusal
-  scores-fit e =
-      let p = all-passed tests refl e in
-      let l = and-both (eqb (length scores) secondsOfHour) (earlierFit (length earlier)) (p .0) in
-      let b = and-both (areScores earlier) (areScores scores) (p .1 .0) in
-      record { long = eqb-true (length scores) secondsOfHour (l .0); of-earlier = l .1; before = b .0; small = b .1 }
+  scores-fit e = let p = all-passed tests refl e in fit-by (p .0) (p .1 .0)
 
   pub fit-scores : ScoresFit earlier scores → scoresRefusal earlier scores ≡ 0
   unfolding scoresRefusal
-  fit-scores f = passed-all tests (both (eq-eqb (length scores) secondsOfHour (f .long)) (f .of-earlier), (both (f .before) (f .small), tt))
+  fit-scores f = let p = by-fit f in passed-all tests (p .0, (p .1, tt))
 
   -- the smallest rolling rate, as one pass finds it
   pub rate-carried : ScoresFit earlier scores → smallestFrom mostScore (carried (lastOf earlier) (secondOf earlier) (thirdOf earlier) scores) ≡ smallest (rolling earlier scores)

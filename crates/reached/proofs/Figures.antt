@@ -1,5 +1,5 @@
--- Figures of #106 by the definitions alone: an hour with four zeros after its first second, whole; of those with three zeros, with none and with nothing else, that no second is
--- named, and how the first windows are read. Computed. (What a whole hour reads is run: crates/desk/stdin.) Assumes nothing.
+-- Hours asked about, by the definitions alone: one of 100 with four zeros after its first second, whole; of one with three zeros and one without, by 95, and of one of zeros, by 0, that no second
+-- is named; and how the first windows are read. Computed. (What a whole hour reads is run: `figures`, crates/desk/stdin.) Assumes nothing.
 use Prim.Native.Nat.{ℕ}
 use mathlib.Core.Path.{_≡_, refl}
 use mathlib.Core.Bool.{false}

@@ -71,6 +71,6 @@ module _ (threshold : ℕ) where
           after r before zero h = r
           after r before (suc j) h = before j (omega arith)
 
--- no window both stays below and meets a threshold; and one that stays below a threshold stays below a higher one
+-- no window that stays below a threshold meets it, or a higher one
 pub not-both {ℓ} : {X : Type ℓ} (t u : ℕ) (w : List ℕ) → t ≤ u → Below t w → Meets u w → X
 not-both t u w h b r = absurd (omega (arith, b (r .back) (r .inside), r .met))

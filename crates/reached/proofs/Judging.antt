@@ -16,8 +16,17 @@ use Rattle.units.specs.Limits.{secondsOfHour}
 use Rattle.reached.specs.Reached.{hourWindows, windowAt, staysBelow, firstBelow, namedSecond, readIn, verdictOf}
 use Rattle.reached.proofs.Windows.{window-count}
 
--- ---- a window: its first k scores are read, and all are below
+-- ---- a window
 
+module _ (threshold : ℕ) where
+  -- what is read where the next score is not below, and where it is
+  read-met : (x : ℕ) (w : List ℕ) → threshold ≤ x → readIn threshold (x ∷ w) ≡ 1
+  read-met x w h = let none : pick (leb threshold x) 0 (readIn threshold w) ≡ 0 = simp (le-leb threshold x h) in omega arith
+
+  read-below : (x : ℕ) (w : List ℕ) → x < threshold → readIn threshold (x ∷ w) ≡ 1 + readIn threshold w
+  read-below x w h = let all : pick (leb threshold x) 0 (readIn threshold w) ≡ readIn threshold w = simp (lt-leb threshold x h) in omega arith
+
+-- its first k scores are read, and what is left decides
 module _ (threshold : ℕ) (window : List ℕ) where
   pub record ReadTo (k : ℕ) : Type 0 where
     pub stays : staysBelow threshold window ≡ staysBelow threshold (drop k window)
@@ -26,26 +35,19 @@ module _ (threshold : ℕ) (window : List ℕ) where
   pub read-to-none : ReadTo 0
   read-to-none = record { stays = refl; count = omega arith }
 
-  -- what is read where the next score is not below, and where it is
-  read-met : (x : ℕ) (w : List ℕ) → threshold ≤ x → readIn threshold (x ∷ w) ≡ 1
-  read-met x w h = let none : pick (leb threshold x) 0 (readIn threshold w) ≡ 0 = simp (le-leb threshold x h) in omega arith
-
-  read-below : (x : ℕ) (w : List ℕ) → x < threshold → readIn threshold (x ∷ w) ≡ 1 + readIn threshold w
-  read-below x w h = let all : pick (leb threshold x) 0 (readIn threshold w) ≡ readIn threshold w = simp (lt-leb threshold x h) in omega arith
-
   module _ (k : ℕ) (r : ReadTo k) where
     -- one more that is below
     pub read-to-more : k < length window → getD window k 0 < threshold → ReadTo (k + 1)
     read-to-more l h =
         let s = rest window k 0 l in
-        let one = ap (readIn threshold) s ∙ read-below (getD window k 0) (drop (k + 1) window) h in
+        let one = ap (readIn threshold) s ∙ read-below threshold (getD window k 0) (drop (k + 1) window) h in
         record { stays = r .stays ∙ ap (staysBelow threshold) s ∙ rw (lt-ltb (getD window k 0) threshold h); count = r .count ∙ omega arith }
 
     -- one that is not: the window is left there
     pub read-to-met : k < length window → threshold ≤ getD window k 0 → (staysBelow threshold window ≡ false) × (readIn threshold window ≡ k + 1)
     read-to-met l h =
         let s = rest window k 0 l in
-        let one = ap (readIn threshold) s ∙ read-met (getD window k 0) (drop (k + 1) window) h in
+        let one = ap (readIn threshold) s ∙ read-met threshold (getD window k 0) (drop (k + 1) window) h in
         (r .stays ∙ ap (staysBelow threshold) s ∙ rw (le-ltb (getD window k 0) threshold h), r .count ∙ omega arith)
 
     -- none is left
@@ -55,7 +57,7 @@ module _ (threshold : ℕ) (window : List ℕ) where
         let none : readIn threshold (drop k window) ≡ 0 = ap (readIn threshold) s in
         (r .stays ∙ ap (staysBelow threshold) s, r .count ∙ omega arith)
 
--- ---- an hour: its first i seconds are judged, and none is named
+-- ---- an hour: its first i seconds are judged, and what is left decides
 
 module _ (earlier scores : List ℕ) (threshold : ℕ) where
   abbrev seen : List (List ℕ)

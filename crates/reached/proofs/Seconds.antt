@@ -1,5 +1,5 @@
--- An hour's seconds by a threshold: one is named and is the first whose whole window stays below, or none is and every window reaches it. So none is named exactly where the smallest rolling
--- rate is at least the threshold, one to four scores are read a second judged, and a higher threshold names no later second. By the first window that stays below, told by each window's
+-- An hour's seconds by a threshold: one is named and is the first whose whole window stays below, or none is and every window meets it. So none is named exactly where the smallest rolling
+-- rate is at least the threshold, from one to four scores a second judged are read in all, and a higher threshold names no later second. By the first window that stays below, told by each window's
 -- scores (First). Assumes nothing.
 use Prim.Native.Nat.{ℕ, _+_, _*_, _≤_, _<_}
 use mathlib.Core.Path.{_≡_, sym, _∙_}
@@ -15,10 +15,10 @@ use Rattle.units.specs.Limits.{secondsOfHour}
 use Rattle.rate.specs.Rolling.{largest, smallest, rolling}
 use Rattle.rate.proofs.Rates.{length-rolling, smallest-least, smallest-most, largest-most, largest-below}
 use Rattle.reached.specs.Reached.{hourWindows, windowAt, namedSecond, secondsJudged, readIn, scoresRead, verdictRefusal, hourReached}
-use Rattle.reached.specs.Accepted.{Meets, FirstBelow}
+use Rattle.reached.specs.Accepted.{Below, Meets, FirstBelow}
 use Rattle.reached.specs.declared.Verdict.{Verdict}
 use Rattle.reached.proofs.Windows.{window-count, window-long}
-use Rattle.reached.proofs.Answers.{threshold-fits}
+use Rattle.reached.proofs.Answers.{threshold-fit}
 use Rattle.reached.proofs.First.{FirstWindow, none-below, first-below, first-window, not-both, read-least, read-most}
 
 module _ (earlier scores : List ℕ) where
@@ -76,7 +76,7 @@ module _ (earlier scores : List ℕ) (threshold : ℕ) (long : length scores ≡
       told (no-second e each) = rw e (omega arith, omega arith)
       told (the-second i e f) = rw (e, ne-eqb (i + 1) 0 (λ z. absurd (omega arith))) (omega arith, omega (arith, f .within))
 
-  -- one to four scores a second judged
+  -- from one to four scores a second judged, in all
   pub read-within : (secondsJudged earlier scores threshold ≤ scoresRead earlier scores threshold) × (scoresRead earlier scores threshold ≤ 4 * secondsJudged earlier scores threshold)
   read-within =
       let b =
@@ -95,38 +95,30 @@ unfolding hourReached
 answer-within earlier scores threshold =
     kept-any (λ (a : Verdict). (a .second ≤ secondsOfHour) × (a .judged ≤ secondsOfHour) × (a .read ≤ 4 * secondsOfHour)) (verdictRefusal earlier scores threshold)
     (λ e.
-    let long = threshold-fits earlier scores threshold e .scored .long in
+    let long = threshold-fit earlier scores threshold e .scored .long in
     let j = judged-within earlier scores threshold long in
     let r = read-within earlier scores threshold long in
     (omega (arith, named-within earlier scores threshold long), omega arith, omega arith))
     (omega arith, omega arith, omega arith)
 
--- there is one first second at most
-one-first : (earlier scores : List ℕ) (threshold i j : ℕ) → FirstBelow earlier scores threshold i → FirstBelow earlier scores threshold j → i ≡ j
-one-first earlier scores threshold i j f g =
+-- the first window to stay below a threshold comes no later than any that stays below it, or below a lower one
+not-later : (earlier scores : List ℕ) {t u : ℕ} (i j : ℕ) → t ≤ u → Below t (windowAt earlier scores i) → FirstBelow earlier scores u j → j ≤ i
+not-later earlier scores {t} {u} i j h b g =
     by-test (ltb i j)
-    (λ (t : ltb i j ≡ true). clashing i j f g (ltb-true i j t))
-    (λ (t : ltb i j ≡ false).
-    by-test (ltb j i)
-    (λ (u : ltb j i ≡ true). clashing j i g f (ltb-true j i u))
-    (λ (u : ltb j i ≡ false). omega (arith, ltb-false i j t, ltb-false j i u)))
-  where
-    clashing : {X : Type 0} (i j : ℕ) → FirstBelow earlier scores threshold i → FirstBelow earlier scores threshold j → i < j → X
-    clashing i j f g h = not-both threshold threshold (windowAt earlier scores i) (omega arith) (f .below) (g .before i h)
+    (λ (l : ltb i j ≡ true). not-both t u (windowAt earlier scores i) h b (g .before i (ltb-true i j l)))
+    (λ (l : ltb i j ≡ false). ltb-false i j l)
 
--- and it is the one that is named
+-- so a first second is the one that is named
 pub first-named : (earlier scores : List ℕ) (threshold i : ℕ) → Named earlier scores threshold → FirstBelow earlier scores threshold i → namedSecond earlier scores threshold ≡ i + 1
 first-named earlier scores threshold i (no-second e each) f = not-both threshold threshold (windowAt earlier scores i) (omega arith) (f .below) (each i (f .within))
-first-named earlier scores threshold i (the-second j e g) f = let same = one-first earlier scores threshold j i g f in e ∙ omega arith
+first-named earlier scores threshold i (the-second j e g) f =
+    let one = not-later earlier scores i j (omega arith) (f .below) g in
+    let other = not-later earlier scores j i (omega arith) (g .below) f in
+    e ∙ omega arith
 
 -- where a threshold names a second, a higher one names that second or an earlier one
 pub higher : (earlier scores : List ℕ) (t u : ℕ) → t ≤ u → Named earlier scores t → Named earlier scores u → (namedSecond earlier scores t ≡ 0 → ⊥)
     → (1 ≤ namedSecond earlier scores u) × (namedSecond earlier scores u ≤ namedSecond earlier scores t)
 higher earlier scores t u h (no-second e each) later n = absurd (n e)
 higher earlier scores t u h (the-second i e f) (no-second d each) n = not-both t u (windowAt earlier scores i) h (f .below) (each i (f .within))
-higher earlier scores t u h (the-second i e f) (the-second j d g) n = (
-  omega arith,
-  by-test (ltb i j)
-      (λ (l : ltb i j ≡ true). not-both t u (windowAt earlier scores i) h (f .below) (g .before i (ltb-true i j l)))
-      (λ (l : ltb i j ≡ false). omega (arith, ltb-false i j l)),
-)
+higher earlier scores t u h (the-second i e f) (the-second j d g) n = let l = not-later earlier scores i j h (f .below) g in (omega arith, omega arith)

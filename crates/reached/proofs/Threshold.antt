@@ -1,5 +1,5 @@
--- WHAT THE ANSWER SAYS OF THE HOUR (document 02, #106): it names the first second whose whole window stays below, and none exactly where the hourly rate is at least the threshold; each second
--- judged takes one to four scores; a higher threshold names no later second. Over the contracts of `reached` and `hourly_rate` as the toolchain reads them. Assumes nothing.
+-- WHAT THE ANSWER SAYS OF THE HOUR (document 02, #106): it names the first second whose whole window stays below, and none exactly where the hourly rate is at least the threshold; the scores read
+-- are from one to four a second judged, in all; a higher threshold names no later second. Over the contracts of `reached` and `hourly_rate` as the toolchain reads them. Assumes nothing.
 use Prim.Native.Nat.{ℕ, _+_, _*_, _≤_, _<_}
 use mathlib.Core.Path.{_≡_, sym, ap, subst, _∙_}
 use mathlib.Core.Bool.{true}
@@ -21,7 +21,7 @@ use Rattle.rate.proofs.hourly_rate.Kinds as hourly-rate-kinds
 use Rattle.reached.specs.Reached.{windowAt, verdictOf, hourReached}
 use Rattle.reached.specs.Accepted.{ThresholdFits, Meets, FirstBelow}
 use Rattle.reached.specs.declared.Verdict.{Verdict}
-use Rattle.reached.proofs.Answers.{threshold-fits, fits-threshold, verdict-refusal, hour-verdict}
+use Rattle.reached.proofs.Answers.{threshold-fit, fit-threshold, verdict-refusal, hour-verdict}
 use Rattle.reached.proofs.Seconds.{Named, no-second, the-second, named, nonempty, named-rate, judged-within, read-within, first-named, higher}
 use Rattle.reached.proofs.reached.Reads as reached
 use Rattle.reached.proofs.reached.Kinds as reached-kinds
@@ -31,7 +31,7 @@ plain : (earlier scores : List ℕ) (threshold : ℕ) (x : Verdict) → x ≡ ho
     → ThresholdFits earlier scores threshold × (x ≡ verdictOf earlier scores threshold)
 plain earlier scores threshold x p z =
     let none = sym (verdict-refusal earlier scores threshold) ∙ sym (ap (λ (r : Verdict). r .refusal) p) ∙ z in
-    (threshold-fits earlier scores threshold none, p ∙ hour-verdict earlier scores threshold none)
+    (threshold-fit earlier scores threshold none, p ∙ hour-verdict earlier scores threshold none)
 
 module _ (κs : Lfts 2) (earlier scores : RefT (List ℕ)) (threshold : ℕ) (x : Verdict) (s : AtExit (endedOf 2 reached-kinds.ps reached-kinds.r) κs)
     (met : reached.Post κs (earlier, (scores, (threshold, tt))) x s) (granted : x .refusal ≡ 0) where
@@ -50,7 +50,7 @@ module _ (κs : Lfts 2) (earlier scores : RefT (List ℕ)) (threshold : ℕ) (x 
   pub reached-judged : x .judged ≡ pick (eqb (x .second) 0) secondsOfHour (x .second)
   reached-judged = rw (is .1)
 
-  -- and reads one to four scores a second judged
+  -- and reads from one to four scores a second judged, in all
   pub reached-counts : (1 ≤ x .judged) × (x .judged ≤ secondsOfHour) × (x .judged ≤ x .read) × (x .read ≤ 4 * x .judged)
   reached-counts =
       let j = judged-within (now earlier) (now scores) threshold (is .0 .scored .long) in
@@ -99,7 +99,7 @@ module _ (κs : Lfts 2) (earlier scores : RefT (List ℕ)) (threshold : ℕ) (x 
       let own = now scores in
       let by = now earlier in
       let long = is .0 .scored .long in
-      let granted = fits-threshold by own over (record { scored = is .0 .scored; small = most }) in
+      let granted = fit-threshold by own over (record { scored = is .0 .scored; small = most }) in
       let other = p ∙ (λ k. hourReached (e k) (f k) over) ∙ hour-verdict by own over granted in
       let first = ap (λ (a : Verdict). a .second) (is .1) in
       let b = higher by own threshold over h (named by own threshold long) (named by own over long) (λ z. n (first ∙ z)) in

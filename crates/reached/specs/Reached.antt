@@ -65,5 +65,6 @@ verdictOf earlier scores threshold =
 abbrev pub noVerdict : ℕ → Verdict
 noVerdict k = record { refusal = k; reached = false; second = 0; judged = 0; read = 0 }
 
+-- the answer
 unfoldable pub hourReached : List ℕ → List ℕ → ℕ → Verdict
 hourReached earlier scores threshold = let k = verdictRefusal earlier scores threshold in kept k (verdictOf earlier scores threshold) (noVerdict k)

@@ -31,7 +31,7 @@ use Rattle.sreg_hour.proofs.sreg_hour.Reads as sreg-hour-reads
 use Rattle.sreg_hour.proofs.sreg_hour.Kinds as sreg-hour-kinds
 use Rattle.reached.specs.Reached.{hourReached}
 use Rattle.reached.specs.declared.Verdict.{Verdict}
-use Rattle.reached.proofs.Answers.{fits-threshold, hour-verdict}
+use Rattle.reached.proofs.Answers.{fit-threshold, hour-verdict}
 use Rattle.reached.proofs.Seconds.{named-rate}
 use Rattle.reached.proofs.reached.Reads as reached
 use Rattle.reached.proofs.reached.Kinds as reached-kinds
@@ -56,7 +56,7 @@ module _ (κs : Lfts 2) (earlier scores : RefT (List ℕ)) (threshold : ℕ) (x 
   judged : (before own : List ℕ) (rate : ℕ) → now earlier ≡ before → now scores ≡ own → ScoresFit before own → rate ≡ smallest (rolling before own)
       → (x .refusal ≡ 0) × (x .reached ≡ leb threshold rate)
   judged before own rate e f fits is =
-      let a = met ∙ (λ i. hourReached (e i) (f i) threshold) ∙ hour-verdict before own threshold (fits-threshold before own threshold (record { scored = fits; small = small })) in
+      let a = met ∙ (λ i. hourReached (e i) (f i) threshold) ∙ hour-verdict before own threshold (fit-threshold before own threshold (record { scored = fits; small = small })) in
       (ap (λ (y : Verdict). y .refusal) a, ap (λ (y : Verdict). y .reached) a ∙ named-rate before own threshold (fits .long) ∙ ap (leb threshold) (sym is))
 
   pub dreg-hour-reached : (ηs : Lfts 6) (a : Dens ηs dreg-kinds.ps) (r : Settlement) (t : AtExit (endedOf 6 dreg-kinds.ps dreg-kinds.r) ηs) → dreg-reads.Post ηs a r t → r .refusal ≡ 0

@@ -2,7 +2,7 @@
 use mathlib.Core.Path.{_≡_, sym, ap, _∙_}
 use borrow.Author.Needs.{needs}
 use Rattle.reached.specs.Reached.{verdictRefusal, noVerdict}
-use Rattle.reached.proofs.Answers.{threshold-fits, hour-verdict, hour-no-verdict}
+use Rattle.reached.proofs.Answers.{threshold-fit, hour-verdict, hour-no-verdict}
 use Rattle.reached.proofs.reached.Statement.{statement}
 use Rattle.reached.proofs.reached.Tie as tie
 
@@ -27,7 +27,7 @@ none c = sym (c .before .refusal .ensures) ∙ c .if1 .left
 first-below-requires : tie.Need-first-below-requires
 first-below-requires c κs =
     let a = c .before .before .before .before .args in
-    threshold-fits (a .earlier .now) (a .scores .now) (a .threshold) (none c) .scored .long
+    threshold-fit (a .earlier .now) (a .scores .now) (a .threshold) (none c) .scored .long
 
 returns-2 : tie.Need-returns-2
 returns-2 c = c .first-below .ensures ∙ sym (hour-verdict _ _ _ (none (c .before)))
