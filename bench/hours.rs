@@ -1,5 +1,5 @@
 // The peer of crates/bench for whole hours: the same hours in plain Rust, as one would write them without proofs, in one pass over the seconds.
-// Standard input is that of the Rattle program, twelve numbers; of its lines this peer prints those of its own counts.
+// Standard input is that of the Rattle program, thirteen numbers; of its lines this peer prints those of its own counts.
 use std::io::Read;
 
 const SECONDS: usize = 3600;
@@ -11,6 +11,7 @@ const BAD_MONEY: u8 = 3;
 const BAD_READING: u8 = 4;
 const BAD_BANDS: u8 = 5;
 const BAD_TRANSFER: u8 = 10;
+const BAD_REFERENCE: u8 = 19;
 
 // The nearest whole number to n / d, a half going away from zero.
 const fn nearest(n: i64, d: i64) -> i64 {
@@ -22,6 +23,7 @@ fn away(n: i64, d: i64) -> i64 {
     (n + (d - 1) * n.signum()) / d
 }
 
+const NOMINAL: i64 = 60_000;
 const FIRST: i64 = 59_750;
 const LAST: i64 = 60_250;
 const UPPER: [(i64, i64); 6] = [(59_750, 100), (59_860, 52), (59_980, 9), (60_020, 9), (60_140, -52), (60_250, -100)];
@@ -49,12 +51,12 @@ const fn table() -> [(i64, i64); 501] {
 
 static CURVE: [(i64, i64); 501] = table();
 
-fn bounds(frequency: i64) -> (i64, i64) {
-    CURVE[(frequency.clamp(FIRST, LAST) - FIRST) as usize]
+fn bounds(frequency: i64, reference: i64) -> (i64, i64) {
+    CURVE[((frequency - (reference - NOMINAL)).clamp(FIRST, LAST) - FIRST) as usize]
 }
 
-fn score(output: i64, frequency: i64) -> u8 {
-    let (upper, lower) = bounds(frequency);
+fn score(output: i64, frequency: i64, reference: i64) -> u8 {
+    let (upper, lower) = bounds(frequency, reference);
     let distance = if output > upper {
         output - upper
     } else if output < lower {
@@ -110,6 +112,7 @@ fn judge(
     powers: &[i64],
     frequencies: &[i64],
     capacity: i64,
+    reference: i64,
     earlier: &[u8],
     scores: &mut [u8],
     transfer: impl Fn(usize, usize) -> i64,
@@ -128,7 +131,7 @@ fn judge(
             if !(-200_000..=200_000).contains(&power) || !(55_000..=65_000).contains(&frequency) {
                 return Err(BAD_READING);
             }
-            let s = score(nearest((power - transfer(q, i + 1)) * 100, capacity), frequency);
+            let s = score(nearest((power - transfer(q, i + 1)) * 100, capacity), frequency, reference);
             *judged = s;
             sums[q] += power;
             rate = rate.min(s.max(a).max(b).max(c));
@@ -148,12 +151,15 @@ fn settle(terms: &Terms, bands: &[Band], rate: u8, energy: i64) -> Settlement {
 }
 
 // Every refusal but that of the readings and the earlier scores.
-fn admit(powers: &[i64], frequencies: &[i64], terms: &Terms, bands: &[Band], earlier: &[u8], scores: &[u8]) -> Result<(), u8> {
+fn admit(powers: &[i64], frequencies: &[i64], terms: &Terms, reference: i64, bands: &[Band], earlier: &[u8], scores: &[u8]) -> Result<(), u8> {
     if powers.len() != SECONDS || frequencies.len() != SECONDS || scores.len() != SECONDS || !matches!(earlier.len(), 0 | 3) {
         return Err(WRONG_LENGTH);
     }
     if !(1..=100_000).contains(&terms.capacity) {
         return Err(BAD_CAPACITY);
+    }
+    if !(59_500..=60_500).contains(&reference) {
+        return Err(BAD_REFERENCE);
     }
     let prices = [terms.clearing, terms.performance, terms.discharge, terms.charge];
     if !prices.iter().all(|p| (0..=10_000_000).contains(p)) {
@@ -168,10 +174,18 @@ fn admit(powers: &[i64], frequencies: &[i64], terms: &Terms, bands: &[Band], ear
     Ok(())
 }
 
-fn hour(powers: &[i64], frequencies: &[i64], terms: &Terms, bands: &[Band], earlier: &[u8], scores: &mut [u8]) -> Result<Settlement, u8> {
-    admit(powers, frequencies, terms, bands, earlier, scores)?;
+fn hour(
+    powers: &[i64],
+    frequencies: &[i64],
+    terms: &Terms,
+    reference: i64,
+    bands: &[Band],
+    earlier: &[u8],
+    scores: &mut [u8],
+) -> Result<Settlement, u8> {
+    admit(powers, frequencies, terms, reference, bands, earlier, scores)?;
     let targets = &terms.targets;
-    let (rate, sums) = judge(powers, frequencies, terms.capacity, earlier, scores, |q, n| ramp(targets[q], targets[q + 1], n))?;
+    let (rate, sums) = judge(powers, frequencies, terms.capacity, reference, earlier, scores, |q, n| ramp(targets[q], targets[q + 1], n))?;
     let parts = sums.iter().zip(&targets[1..]).map(|(sum, target)| match target.signum() {
         1 => sum * terms.discharge,
         -1 => -sum * terms.charge,
@@ -184,6 +198,7 @@ fn dreg_hour(
     powers: &[i64],
     frequencies: &[i64],
     capacity: i64,
+    reference: i64,
     clearing: i64,
     performance: i64,
     bands: &[Band],
@@ -191,8 +206,8 @@ fn dreg_hour(
     scores: &mut [u8],
 ) -> Result<Settlement, u8> {
     let terms = Terms { capacity, clearing, performance, discharge: 0, charge: 0, targets: [0; 5] };
-    admit(powers, frequencies, &terms, bands, earlier, scores)?;
-    let (rate, _) = judge(powers, frequencies, capacity, earlier, scores, |_, _| 0)?;
+    admit(powers, frequencies, &terms, reference, bands, earlier, scores)?;
+    let (rate, _) = judge(powers, frequencies, capacity, reference, earlier, scores, |_, _| 0)?;
     Ok(settle(&terms, bands, rate, 0))
 }
 
@@ -253,7 +268,7 @@ fn sreg_hour(
     scores: &mut [u8],
 ) -> Result<(Settlement, State), u8> {
     let terms = Terms { capacity, clearing, performance, discharge: 0, charge: 0, targets: [0; 5] };
-    admit(powers, frequencies, &terms, bands, earlier, scores)?;
+    admit(powers, frequencies, &terms, NOMINAL, bands, earlier, scores)?;
     let (mut a, mut b, mut c) = match *earlier {
         [] => (0, 0, 0),
         [c, b, a] if a <= 100 && b <= 100 && c <= 100 => (a, b, c),
@@ -312,7 +327,7 @@ fn with_settlement(sum: u64, answer: &Result<Settlement, u8>) -> u64 {
 
 const LIST_S: [(i64, i64); 7] = [(95, 10), (94, 8), (93, 6), (92, 4), (91, 2), (70, 0), (0, -10)];
 
-fn run(shifting: bool, capacity: u64, targets: [i64; 5], count: u64) -> u64 {
+fn run(shifting: bool, capacity: u64, reference: u64, targets: [i64; 5], count: u64) -> u64 {
     let bands = LIST_S.map(|(threshold, factor)| Band { threshold, factor });
     let terms = Terms { capacity: capacity as i64, clearing: 44_000, performance: 35_000, discharge: 50_000, charge: 30_000, targets };
     let (mut powers, mut frequencies, mut scores) = ([0; SECONDS], [0; SECONDS], [0; SECONDS]);
@@ -329,9 +344,9 @@ fn run(shifting: bool, capacity: u64, targets: [i64; 5], count: u64) -> u64 {
         powers[place] = drawn(place, x, capacity, &targets);
         let earlier = [scores[SECONDS - 3], scores[SECONDS - 2], scores[SECONDS - 1]];
         let answer = if shifting {
-            hour(&powers, &frequencies, &terms, &bands, &earlier, &mut scores)
+            hour(&powers, &frequencies, &terms, reference as i64, &bands, &earlier, &mut scores)
         } else {
-            dreg_hour(&powers, &frequencies, terms.capacity, terms.clearing, terms.performance, &bands, &earlier, &mut scores)
+            dreg_hour(&powers, &frequencies, terms.capacity, reference as i64, terms.clearing, terms.performance, &bands, &earlier, &mut scores)
         };
         sum = with_settlement(sum, &answer);
     }
@@ -388,12 +403,13 @@ fn main() {
     std::io::stdin().read_to_string(&mut input).expect("standard input");
     let mut numbers = input.split_whitespace().skip(7).map(|n| n.parse::<u64>().expect("a number"));
     let mut number = || numbers.next().unwrap_or(0);
-    let (capacity, plain, shifting, wandering, by_chance) = (number(), number(), number(), number(), number());
+    let (capacity, reference, plain, shifting) = (number(), number(), number(), number());
+    let (wandering, by_chance) = (number(), number());
     if plain != 0 {
-        println!("dReg {plain} {}", run(false, capacity, [0; 5], plain));
+        println!("dReg {plain} {}", run(false, capacity, reference, [0; 5], plain));
     }
     if shifting != 0 {
-        println!("E-dReg {shifting} {}", run(true, capacity, [2_000, -3_000, 5_000, -8_000, 4_000], shifting));
+        println!("E-dReg {shifting} {}", run(true, capacity, reference, [2_000, -3_000, 5_000, -8_000, 4_000], shifting));
     }
     if wandering != 0 {
         println!("sReg {wandering} {}", run_sreg(false, capacity, wandering));

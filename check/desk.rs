@@ -103,8 +103,17 @@ impl Product {
     /// How many numbers stand before N.
     fn head(self) -> usize {
         match self {
-            Product::Dreg | Product::Sreg => 3,
-            Product::Edreg => 10,
+            Product::Sreg => 3,
+            Product::Dreg => 4,
+            Product::Edreg => 11,
+        }
+    }
+
+    /// Where the two award prices stand: after CAPACITY and, but for sReg, REFERENCE.
+    pub fn prices_at(self) -> usize {
+        match self {
+            Product::Sreg => 1,
+            Product::Dreg | Product::Edreg => 2,
         }
     }
 
@@ -119,10 +128,11 @@ impl Product {
 
 fn needs(word: &[u8]) -> Option<Needs> {
     let needs = match word {
-        b"kilowatts" | b"curve" => Needs::Just(1),
-        b"ramp" | b"fee" | b"pair" => Needs::Just(2),
+        b"kilowatts" => Needs::Just(1),
+        b"curve" | b"ramp" | b"fee" | b"pair" => Needs::Just(2),
         b"quality" | b"pair_frame" => Needs::Just(3),
-        b"score" | b"loss" | b"frame" | b"loss_frames" => Needs::Just(4),
+        b"loss" | b"frame" | b"loss_frames" => Needs::Just(4),
+        b"score" => Needs::Just(5),
         b"rate" => Needs::Scores(0),
         b"reached" => Needs::Scores(1),
         b"energy" => Needs::Just(6 + SECONDS),
@@ -286,13 +296,15 @@ fn hour(numbers: &[i64], product: Product) -> Hour {
     let (earlier, rest) = earlier(rest);
     let (begun, readings) = rest.split_at(product.state());
     let every_second = |from: usize| readings.iter().skip(from).step_by(2).copied().collect();
+    let prices = product.prices_at();
     Hour {
         capacity: numbers[0],
-        clearing: numbers[1],
-        performance: numbers[2],
+        reference: (product != Product::Sreg).then(|| numbers[1]),
+        clearing: numbers[prices],
+        performance: numbers[prices + 1],
         beside: match product {
             Product::Dreg => Beside::Nothing,
-            Product::Edreg => Beside::Shift(shift(&numbers[3..5], numbers[5], &numbers[6..10])),
+            Product::Edreg => Beside::Shift(shift(&numbers[4..6], numbers[6], &numbers[7..11])),
             Product::Sreg => Beside::State(state(begun)),
         },
         bands: pairs(&told[head + 1..]),
@@ -350,8 +362,8 @@ fn answers(word: &[u8], n: &[i64]) -> Vec<String> {
 fn answer(word: &[u8], n: &[i64]) -> String {
     match word {
         b"kilowatts" => fields(rules::kilowatts(n[0]).map(|power| [power])),
-        b"curve" => fields(rules::curve(n[0]).map(|(upper, lower)| [upper, lower])),
-        b"score" => fields(rules::score(n[0], n[1], n[2], n[3]).map(|score| [score])),
+        b"curve" => fields(rules::curve(n[0], n[1]).map(|(upper, lower)| [upper, lower])),
+        b"score" => fields(rules::score(n[0], n[1], n[2], n[3], n[4]).map(|score| [score])),
         b"ramp" => run(rules::ramp(n[0], n[1])),
         b"rate" => fields(rate(n).map(|rate| [rate])),
         b"reached" => fields(reached(n)),

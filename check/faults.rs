@@ -68,10 +68,17 @@ pub enum Fault {
     NamedNotJudged,
     ThresholdBeforeScore,
     ThresholdWrapped,
+    MovedTheOtherWay,
+    UpperBoundAlone,
+    CornersStay,
+    ReferencePastItsRange,
+    ReferenceBeforeCapacity,
+    ReferenceAfterPrices,
+    ReferenceLast,
 }
 
 /// The name on the command line, the fault, and what it does.
-pub const FAULTS: [(&str, Fault, &str); 63] = [
+pub const FAULTS: [(&str, Fault, &str); 70] = [
     ("half-toward-zero", Fault::HalfTowardZero, "a half is rounded toward zero"),
     ("window-of-three", Fault::WindowOfThree, "a rolling rate looks at three seconds"),
     ("own-second", Fault::OwnSecond, "a power is judged by its own second's frequency"),
@@ -135,6 +142,13 @@ pub const FAULTS: [(&str, Fault, &str); 63] = [
     ("named-not-judged", Fault::NamedNotJudged, "the named second is not among the judged ones"),
     ("threshold-before-score", Fault::ThresholdBeforeScore, "in `reached` 5 comes before 4"),
     ("threshold-wrapped", Fault::ThresholdWrapped, "a threshold past a byte is taken by its lowest eight bits"),
+    ("moved-the-other-way", Fault::MovedTheOtherWay, "the curve's corners move against the reference"),
+    ("upper-bound-alone", Fault::UpperBoundAlone, "the upper bound moves with the reference, and the lower one stays"),
+    ("corners-stay", Fault::CornersStay, "the curve stands around 60,000 mHz, whatever the reference"),
+    ("reference-of-60501", Fault::ReferencePastItsRange, "a reference of 60,501 mHz is taken"),
+    ("reference-before-two", Fault::ReferenceBeforeCapacity, "refusal 19 comes before 2"),
+    ("reference-after-prices", Fault::ReferenceAfterPrices, "refusal 19 comes after 3"),
+    ("reference-last", Fault::ReferenceLast, "refusal 19 comes after 4"),
 ];
 
 static CHOSEN: OnceLock<Fault> = OnceLock::new();

@@ -1,5 +1,5 @@
 //! The figures that document 01 prints ("Worked figures", "Frames"), typed off the paper, #101's frames of them, #102's
-//! first windows, #103's events and #105's pair: this side's rules have to give them, and the programs too.
+//! first windows, #103's events, #105's pair and #107's moved references: this side's rules have to give them, and the programs too.
 
 use crate::draw::Draw;
 use crate::programs::Program;
@@ -12,13 +12,23 @@ const LIST_S: &str = "95 10 94 8 93 6 92 4 91 2 70 0 0 -10";
 fn lines() -> Vec<(String, &'static str)> {
     let charging: Vec<_> = [-3000, -2900, 100, -3200].iter().map(|mean| format!(" {mean}").repeat(900)).collect();
     vec![
-        ("curve 59900".into(), "0 38 32"),
-        ("curve 59920".into(), "0 31 22"),
-        ("curve 60080".into(), "0 -22 -31"),
-        ("curve 59980".into(), "0 9 -9"),
-        ("curve 59750".into(), "0 100 100"),
-        ("score 43 0 100 59900".into(), "0 95"),
-        ("score 35 0 100 59900".into(), "0 100"),
+        ("curve 59900 60000".into(), "0 38 32"),
+        ("curve 59920 60000".into(), "0 31 22"),
+        ("curve 60080 60000".into(), "0 -22 -31"),
+        ("curve 59980 60000".into(), "0 9 -9"),
+        ("curve 59750 60000".into(), "0 100 100"),
+        ("score 43 0 100 59900 60000".into(), "0 95"),
+        ("score 35 0 100 59900 60000".into(), "0 100"),
+        ("score 43 0 100 60200 60300".into(), "0 95"),
+        ("score 43 0 100 59400 59500".into(), "0 95"),
+        ("score 43 0 100 59900 60501".into(), "19 0"),
+        ("score 43 0 0 59900 60501".into(), "2 0"),
+        ("score 43 100001 100 59900 60501".into(), "19 0"),
+        ("curve 59250 59500".into(), "0 100 100"),
+        ("curve 60160 60300".into(), "0 52 52"),
+        ("curve 60750 60500".into(), "0 -100 -100"),
+        ("curve 54999 59499".into(), "19 0 0"),
+        ("curve 54999 59500".into(), "4 0 0"),
         (format!("factor 94 {LIST_S}"), "0 8"),
         ("quality 4350 3500 8".into(), "0 6280"),
         (format!("factor 69 {LIST_S}"), "0 -10"),
@@ -76,7 +86,7 @@ fn reached(before: &str, first: &str) -> String {
 
 /// A dReg hour at 60 Hz in which nothing is given or taken.
 fn idle(capacity: i64, earlier: &str) -> String {
-    format!("dreg {capacity} 0 0 7 {LIST_S} {earlier}{}", " 0 60000".repeat(3600))
+    format!("dreg {capacity} 60000 0 0 7 {LIST_S} {earlier}{}", " 0 60000".repeat(3600))
 }
 
 // ---- sReg hours (#103)

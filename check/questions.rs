@@ -75,23 +75,38 @@ pub fn kilowatts(draw: &mut Draw) -> String {
     text
 }
 
-/// Every whole millihertz of the range and past it.
+/// Every whole millihertz of the range and past it; then the whole curve about moved references.
 pub fn curve(draw: &mut Draw) -> String {
     let mut text = String::new();
     for frequency in 54_990..=65_010 {
-        ask(draw, &mut text, "curve", &[frequency]);
+        ask(draw, &mut text, "curve", &[frequency, NOMINAL]);
     }
-    ask_edges(draw, &mut text, "curve", &[FREQUENCY]);
-    ask_any(draw, &mut text, "curve", &[FREQUENCY], 1000);
+    let drawn = draw.fit(REFERENCE);
+    for reference in [59_500, 59_501, 59_700, 60_300, 60_499, 60_500, drawn] {
+        for frequency in reference - 255..=reference + 255 {
+            ask(draw, &mut text, "curve", &[frequency, reference]);
+        }
+    }
+    ask_edges(draw, &mut text, "curve", &[FREQUENCY, REFERENCE]);
+    ask_any(draw, &mut text, "curve", &[FREQUENCY, REFERENCE], 2000);
     text
 }
 
+/// The reference: as often as not where it stands in document 01.
+fn reference(draw: &mut Draw) -> i64 {
+    if draw.one_in(2) {
+        NOMINAL
+    } else {
+        draw.fit(REFERENCE)
+    }
+}
+
 /// A frequency, mostly where the curve bends.
-fn frequency(draw: &mut Draw) -> i64 {
+fn frequency(draw: &mut Draw, reference: i64) -> i64 {
     if draw.one_in(10) {
         draw.fit(FREQUENCY)
     } else {
-        draw.between(59_740, 60_260)
+        draw.between(reference - 260, reference + 260)
     }
 }
 
@@ -104,29 +119,30 @@ fn power_at(draw: &mut Draw, percent: i64, transfer: i64, capacity: i64) -> i64 
 }
 
 /// A percent output at, in or near the curve's bounds.
-fn percent_near(draw: &mut Draw, frequency: i64) -> i64 {
-    let (upper, lower) = bounds(frequency);
+fn percent_near(draw: &mut Draw, frequency: i64, reference: i64) -> i64 {
+    let (upper, lower) = bounds(frequency, reference);
     match draw.below(6) {
         0 => upper + draw.between(-1, 2),
         1 => lower - draw.between(-1, 2),
         2 => upper + draw.between(95, 105),
         3 => lower - draw.between(95, 105),
-        _ => draw.between(lower - 10, upper + 10),
+        _ => draw.between(lower.min(upper) - 10, lower.max(upper) + 10),
     }
 }
 
 pub fn score(draw: &mut Draw) -> String {
     let mut text = String::new();
-    let limits = [POWER, TARGET, CAPACITY, FREQUENCY];
+    let limits = [POWER, TARGET, CAPACITY, FREQUENCY, REFERENCE];
     ask_edges(draw, &mut text, "score", &limits);
     ask_any(draw, &mut text, "score", &limits, 1000);
     for _ in 0..3000 {
         let capacity = if draw.one_in(2) { 200 * draw.between(1, 500) } else { draw.fit(CAPACITY) };
         let transfer = if draw.one_in(2) { 0 } else { draw.fit(TARGET) };
-        let frequency = frequency(draw);
-        let percent = percent_near(draw, frequency);
+        let reference = reference(draw);
+        let frequency = frequency(draw, reference);
+        let percent = percent_near(draw, frequency, reference);
         let power = power_at(draw, percent, transfer, capacity);
-        ask(draw, &mut text, "score", &[power, transfer, capacity, frequency]);
+        ask(draw, &mut text, "score", &[power, transfer, capacity, frequency, reference]);
     }
     text
 }
@@ -521,7 +537,7 @@ fn uncounted(draw: &mut Draw) -> Vec<i64> {
 /// The scheduled transfers of the head's targets; none for dReg.
 fn planned(head: &[i64]) -> Vec<i64> {
     match head {
-        [_, _, _, discharge, charge, before, targets @ ..] => transfers(&Shift {
+        [_, _, _, _, discharge, charge, before, targets @ ..] => transfers(&Shift {
             discharge: *discharge,
             charge: *charge,
             before: *before,
@@ -531,40 +547,41 @@ fn planned(head: &[i64]) -> Vec<i64> {
     }
 }
 
-/// How the frequency goes on.
-fn next_frequency(draw: &mut Draw, way: usize, last: i64) -> i64 {
+/// How the frequency goes on, about the reference.
+fn next_frequency(draw: &mut Draw, way: usize, last: i64, reference: i64) -> i64 {
     match way {
         0 => last,
-        1 => (last + draw.between(-8, 8)).clamp(59_700, 60_300),
+        1 => (last + draw.between(-8, 8)).clamp(reference - 300, reference + 300),
         2 => draw.fit(FREQUENCY),
-        _ => draw.between(59_740, 60_260),
+        _ => draw.between(reference - 260, reference + 260),
     }
 }
 
 /// A percent output within the bounds, or so much outside them.
-fn percent(draw: &mut Draw, frequency: i64, outside: Option<Limits>) -> i64 {
-    let (upper, lower) = bounds(frequency);
+fn percent(draw: &mut Draw, frequency: i64, reference: i64, outside: Option<Limits>) -> i64 {
+    let (upper, lower) = bounds(frequency, reference);
     match (outside, draw.below(4)) {
         (None, 0) => upper,
         (None, 1) => lower,
-        (None, _) => draw.between(lower, upper),
+        (None, _) => draw.between(lower.min(upper), lower.max(upper)),
         (Some(Limits(least, most)), 0 | 1) => upper + draw.between(least, most),
         (Some(Limits(least, most)), _) => lower - draw.between(least, most),
     }
 }
 
-/// Readings that follow the curve but for dips of some depth; so many first seconds stumble deeper.
-fn readings(draw: &mut Draw, capacity: i64, planned: &[i64], depth: i64, stumble: usize) -> Vec<i64> {
+/// Readings of an hour with this head that follow the curve but for dips of some depth; so many first seconds stumble deeper.
+fn readings(draw: &mut Draw, head: &[i64], depth: i64, stumble: usize) -> Vec<i64> {
+    let (capacity, reference, planned) = (head[0], head[1], planned(head));
     let way = draw.below(5);
-    let (mut now, mut dip, mut calm) = (60_000, 0, draw.below(40));
+    let (mut now, mut dip, mut calm) = (reference, 0, draw.below(40));
     let mut list = Vec::new();
     for (second, transfer) in planned.iter().enumerate() {
         if dip == 0 && calm == 0 {
             (dip, calm) = (dip_length(draw), draw.below(60));
         }
-        now = next_frequency(draw, way, now);
+        now = next_frequency(draw, way, now, reference);
         let outside = if second < stumble { Some(Limits(60, 130)) } else { (dip > 0).then_some(Limits(0, depth)) };
-        let output = percent(draw, now, outside);
+        let output = percent(draw, now, reference, outside);
         list.extend([power_at(draw, output, *transfer, capacity), now]);
         (dip, calm) = if dip > 0 { (dip - 1, calm) } else { (0, calm - 1) };
     }
@@ -696,13 +713,17 @@ fn any_state(draw: &mut Draw) -> Vec<i64> {
 // any hour
 
 fn fit_hour(draw: &mut Draw, product: Product) -> Asked {
-    let mut limits = vec![CAPACITY, PRICE, PRICE];
+    let mut limits = if product == Product::Sreg { vec![CAPACITY] } else { vec![CAPACITY, REFERENCE] };
+    limits.extend([PRICE, PRICE]);
     if product == Product::Edreg {
         limits.extend([PRICE, PRICE, TARGET, TARGET, TARGET, TARGET, TARGET]);
     }
     let mut head: Vec<_> = limits.iter().map(|limit| draw.fit(*limit)).collect();
+    if product != Product::Sreg {
+        head[1] = reference(draw);
+    }
     if draw.one_in(3) {
-        [head[1], head[0]] = tied_fee(draw);
+        [head[product.prices_at()], head[0]] = tied_fee(draw);
     }
     if head[0] < 100 && draw.one_in(2) {
         head[0] = draw.between(100, 5000);
@@ -716,7 +737,7 @@ fn fit_hour(draw: &mut Draw, product: Product) -> Asked {
     }
     let depth = draw.of(&[0, 4, 9, 30, 130]);
     let stumble = draw.of(&[0, 0, 1, 3]);
-    let readings = readings(draw, head[0], &planned(&head), depth, stumble);
+    let readings = readings(draw, &head, depth, stumble);
     Asked { head, limits, bands, earlier, state: Vec::new(), readings }
 }
 
@@ -957,7 +978,7 @@ fn ask_stumble(draw: &mut Draw, text: &mut String, earlier: &[i64], stumble: usi
             hour.state = state_numbers(State::Outside).to_vec();
             standby(draw, hour.head[0], stumble)
         } else {
-            readings(draw, hour.head[0], &planned(&hour.head), 4, stumble)
+            readings(draw, &hour.head, 4, stumble)
         };
         ask(draw, text, hour_words(product)[0], &hour.numbers());
     }
@@ -1053,14 +1074,19 @@ fn past(draw: &mut Draw, Limits(low, high): Limits) -> i64 {
 }
 
 /// The hour with one more thing against the rules, which alone would be refused with this number.
-fn refuse(draw: &mut Draw, hour: &mut Asked, refusal: u8) {
-    let prices: &[usize] = if hour.head.len() > 3 { &[1, 2, 3, 4] } else { &[1, 2] };
+fn refuse(draw: &mut Draw, hour: &mut Asked, product: Product, refusal: u8) {
+    let prices: &[usize] = match product {
+        Product::Dreg => &[2, 3],
+        Product::Edreg => &[2, 3, 4, 5],
+        Product::Sreg => &[1, 2],
+    };
     match refusal {
         1 => hour.earlier = wrong_earlier(draw),
         2 => hour.head[0] = past(draw, CAPACITY),
         3 => hour.head[draw.of(prices)] = past(draw, PRICE),
         5 => hour.bands = draw.of(&[&[0][..], &[101], &[1, 1, 0], &[2, 5, 0, 5, 0], &[1, 0, 11]]).to_vec(),
-        10 => hour.head[draw.of(&[5, 6, 7, 8, 9])] = past(draw, TARGET),
+        10 => hour.head[draw.of(&[6, 7, 8, 9, 10])] = past(draw, TARGET),
+        19 => hour.head[1] = past(draw, REFERENCE),
         _ => refuse_reading(draw, hour),
     }
 }
@@ -1090,14 +1116,16 @@ fn refuse_reading(draw: &mut Draw, hour: &mut Asked) {
 /// An hour for every set of its refusals: the first in their order is the answer.
 pub fn hour_orders(draw: &mut Draw) -> String {
     let mut text = String::new();
-    let without_targets = &[1, 2, 3, 5, 4][..];
-    let with_targets = &[1, 2, 3, 5, 10, 4][..];
     for product in PRODUCTS {
-        let refusals = if product == Product::Edreg { with_targets } else { without_targets };
+        let refusals = match product {
+            Product::Dreg => &[1, 2, 19, 3, 5, 4][..],
+            Product::Edreg => &[1, 2, 19, 3, 5, 10, 4],
+            Product::Sreg => &[1, 2, 3, 5, 4],
+        };
         for set in 1..1 << refusals.len() {
             let mut hour = fit_hour(draw, product);
             for (_, refusal) in refusals.iter().enumerate().filter(|(at, _)| set >> at & 1 == 1) {
-                refuse(draw, &mut hour, *refusal);
+                refuse(draw, &mut hour, product, *refusal);
             }
             ask_hour(draw, &mut text, product, &hour.numbers());
         }
@@ -1201,10 +1229,10 @@ const LARGE: [&str; 12] = [
 /// Words with how many numbers each takes (and what those may be, when right).
 const SMALL: [(&str, &[Limits]); 10] = [
     ("kilowatts", &[MEGAWATTS]),
-    ("curve", &[FREQUENCY]),
+    ("curve", &[FREQUENCY, REFERENCE]),
     ("fee", &[PRICE, CAPACITY]),
     ("quality", &[FEE, FEE, FACTOR]),
-    ("score", &[POWER, TARGET, CAPACITY, FREQUENCY]),
+    ("score", &[POWER, TARGET, CAPACITY, FREQUENCY, REFERENCE]),
     ("loss", &[ENERGY, ENERGY, VOLTAGE, COST]),
     ("loss_frames", &[ENERGY, ENERGY, VOLTAGE, COST]),
     ("bands", &[THRESHOLD, FACTOR]),
@@ -1240,9 +1268,9 @@ fn wild_token(draw: &mut Draw, text: &mut String) {
         6 => text.push_str(draw.of(&STRANGERS)),
         7 => text.push_str(draw.of(&JUNK)),
         8 => text.push_str(draw.of(&LARGE)),
-        9 => text.push_str("# curve 60000, 12\r"),
+        9 => text.push_str("# curve 60000 60000, 12\r"),
         10 => text.push_str(&draw.any(SCORE).to_string()),
-        _ => text.push_str(&format!("curve {}#x", draw.of(&LARGE))),
+        _ => text.push_str(&format!("curve 60000 {}#x", draw.of(&LARGE))),
     }
 }
 
@@ -1283,8 +1311,8 @@ pub fn long_text(draw: &mut Draw) -> String {
 fn ask_lengthy(draw: &mut Draw, text: &mut String) {
     let long = draw.between(1000, 200_000) as usize;
     let (zeros, nines, letters) = ("0".repeat(long), "9".repeat(long), "a".repeat(long));
-    text.push_str(&format!("curve {zeros}60000\nfee 1 -{zeros}\ncurve {nines}\n{letters} 3\ncurve # {letters}\n60000\ncurve {letters}"));
-    text.push_str(&format!("{}curve{}60000\n", "\n".repeat(long), " ".repeat(long)));
+    text.push_str(&format!("curve {zeros}60000 60000\nfee 1 -{zeros}\ncurve {nines}\n{letters} 3\ncurve # {letters}\n60000 60000\ncurve {letters}"));
+    text.push_str(&format!("{}curve{}60000 60000\n", "\n".repeat(long), " ".repeat(long)));
 }
 
 /// As many numbers as this, on lines of some length.
@@ -1317,7 +1345,7 @@ fn earlier_counts(draw: &mut Draw, text: &mut String, product: Product, count: i
 /// Questions whose counts are right, one short, one over, or past the 8,192 that a question holds.
 pub fn counts(draw: &mut Draw) -> String {
     let mut text = String::new();
-    let few = [("ramp", 2), ("pair", 2), ("pair_frame", 3), ("reached", 1), ("dreg", 4), ("edreg", 11), ("sreg", 8)];
+    let few = [("curve", 2), ("score", 5), ("ramp", 2), ("pair", 2), ("pair_frame", 3), ("reached", 1), ("dreg", 5), ("edreg", 12), ("sreg", 8)];
     let many = [("energy", 3606), ("bands", 8192), ("factor", 8192)];
     for (word, count) in few.into_iter().chain(many) {
         for near in count - 1..=count + 2 {

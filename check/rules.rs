@@ -1,4 +1,4 @@
-//! Document 01's rules for an hour, a ramp and the loss fee, with document 02's #102 and #103, from the papers alone,
+//! Document 01's rules for an hour, a ramp and the loss fee, with document 02's #102, #103 and #107, from the papers alone,
 //! as they define them: exact fractions in 128 bits, no tables, windows as the papers word them, events as stretches of
 //! seconds. Every function takes any 64-bit numbers.
 
@@ -26,6 +26,9 @@ pub const PRICE: Limits = Limits(0, 10_000_000);
 pub const COST: Limits = Limits(0, 1_000_000);
 pub const POWER: Limits = Limits(-200_000, 200_000);
 pub const FREQUENCY: Limits = Limits(55_000, 65_000);
+/// The curve's reference, where it stands in document 01, and how far it may be moved (#107).
+pub const NOMINAL: i64 = 60_000;
+pub const REFERENCE: Limits = Limits(59_500, 60_500);
 pub const SCORE: Limits = Limits(0, 100);
 pub const RECORDS: Limits = Limits(1, 16);
 pub const THRESHOLD: Limits = Limits(0, 100);
@@ -47,14 +50,21 @@ pub fn first_refused(order: &[u8], holding: &[(u8, bool)]) -> Answer<()> {
     order.iter().find(holds).map_or(Ok(()), |number| Err(*number))
 }
 
-/// "Hour, and calls for a part of its work: 1, 2, 3, 5, 10, 4." A run's length, 1, is desk's to count, but for the earlier scores.
+/// "Hour, and calls for a part of its work: 1, 2, 3, 5, 10, 4", and 19 "directly after 2" (#107). A run's length, 1, is desk's to count, but
+/// for the earlier scores.
 fn hour_order() -> &'static [u8] {
     if wrong(Fault::PriceBeforeCapacity) {
-        &[1, 3, 2, 5, 10, 4]
+        &[1, 3, 2, 19, 5, 10, 4]
     } else if wrong(Fault::CountAfterCapacity) {
-        &[2, 1, 3, 5, 10, 4]
+        &[2, 1, 19, 3, 5, 10, 4]
+    } else if wrong(Fault::ReferenceBeforeCapacity) {
+        &[1, 19, 2, 3, 5, 10, 4]
+    } else if wrong(Fault::ReferenceAfterPrices) {
+        &[1, 2, 3, 19, 5, 10, 4]
+    } else if wrong(Fault::ReferenceLast) {
+        &[1, 2, 3, 5, 10, 4, 19]
     } else {
-        &[1, 2, 3, 5, 10, 4]
+        &[1, 2, 19, 3, 5, 10, 4]
     }
 }
 
@@ -140,17 +150,31 @@ fn on_line(x: i64, (x0, y0): (i64, i64), (x1, y1): (i64, i64)) -> i64 {
     (whole(y0) + fraction((y1 - y0) * (x - x0), x1 - x0)).nearest()
 }
 
-/// The upper and the lower bound at any frequency.
-pub fn bounds(frequency: i64) -> (i64, i64) {
-    let held = frequency.clamp(CORNERS[0].0, CORNERS[5].0);
-    let side = CORNERS.windows(2).find(|pair| held <= pair[1].0).expect("held to the corners");
-    let (left, right) = (side[0], side[1]);
-    (on_line(held, (left.0, left.1), (right.0, right.1)), on_line(held, (left.0, left.2), (right.0, right.2)))
+/// One of the two bounds at any frequency, on lines between these corners: millihertz and percent.
+fn bound(frequency: i64, corners: [(i64, i64); 6]) -> i64 {
+    let held = frequency.clamp(corners[0].0, corners[5].0);
+    let side = corners.windows(2).find(|pair| held <= pair[1].0).expect("held to the corners");
+    on_line(held, side[0], side[1])
 }
 
-pub fn curve(frequency: i64) -> Answer<(i64, i64)> {
-    first_refused(hour_order(), &[(4, !FREQUENCY.hold(frequency))])?;
-    Ok(bounds(frequency))
+/// The upper and the lower bound at any frequency: "every corner moves with [the reference]" (#107).
+pub fn bounds(frequency: i64, reference: i64) -> (i64, i64) {
+    let by = match reference - NOMINAL {
+        _ if wrong(Fault::CornersStay) => 0,
+        by if wrong(Fault::MovedTheOtherWay) => -by,
+        by => by,
+    };
+    let lower_by = if wrong(Fault::UpperBoundAlone) { 0 } else { by };
+    (bound(frequency, CORNERS.map(|(f, upper, _)| (f + by, upper))), bound(frequency, CORNERS.map(|(f, _, lower)| (f + lower_by, lower))))
+}
+
+fn reference_fits(reference: i64) -> bool {
+    REFERENCE.hold(reference) || wrong(Fault::ReferencePastItsRange) && reference == REFERENCE.1 + 1
+}
+
+pub fn curve(frequency: i64, reference: i64) -> Answer<(i64, i64)> {
+    first_refused(hour_order(), &[(19, !reference_fits(reference)), (4, !FREQUENCY.hold(frequency))])?;
+    Ok(bounds(frequency, reference))
 }
 
 // ---- "A second's score, an hour's rate"
@@ -160,8 +184,8 @@ fn percent_output(power: i64, transfer: i64, capacity: i64) -> i64 {
     fraction(100 * (power - transfer), capacity).nearest()
 }
 
-fn score_of(percent: i64, frequency: i64) -> i64 {
-    let (upper, lower) = bounds(frequency);
+fn score_of(percent: i64, frequency: i64, reference: i64) -> i64 {
+    let (upper, lower) = bounds(frequency, reference);
     if lower <= percent && percent <= upper {
         return 100;
     }
@@ -169,10 +193,11 @@ fn score_of(percent: i64, frequency: i64) -> i64 {
     (100 - distance).max(0)
 }
 
-pub fn score(power: i64, transfer: i64, capacity: i64, frequency: i64) -> Answer<i64> {
+pub fn score(power: i64, transfer: i64, capacity: i64, frequency: i64, reference: i64) -> Answer<i64> {
     let readings = POWER.hold(power) && FREQUENCY.hold(frequency);
-    first_refused(hour_order(), &[(2, !CAPACITY.hold(capacity)), (10, !TARGET.hold(transfer)), (4, !readings)])?;
-    Ok(score_of(percent_output(power, transfer, capacity), frequency))
+    let referred = reference_fits(reference);
+    first_refused(hour_order(), &[(2, !CAPACITY.hold(capacity)), (19, !referred), (10, !TARGET.hold(transfer)), (4, !readings)])?;
+    Ok(score_of(percent_output(power, transfer, capacity), frequency, reference))
 }
 
 /// The scores before an hour's first second (#102), the oldest first: how many there are said to be, and those that came.
@@ -562,6 +587,8 @@ pub enum Beside {
 /// An hour handed in.
 pub struct Hour {
     pub capacity: i64,
+    /// None for sReg, whose hours have no curve.
+    pub reference: Option<i64>,
     pub clearing: i64,
     pub performance: i64,
     pub beside: Beside,
@@ -613,8 +640,9 @@ pub fn transfers(shift: &Shift) -> Vec<i64> {
 /// "The power of second t is judged by the frequency of second t-1": the two stand at the same place of their runs.
 fn scores_of(hour: &Hour) -> Vec<i64> {
     let planned = hour.shift().map_or(vec![0; hour.powers.len()], transfers);
+    let reference = hour.reference.expect("an hour with a curve has a reference");
     let judged_by = |at: usize| if wrong(Fault::OwnSecond) { (at + 1).min(hour.frequencies.len() - 1) } else { at };
-    let second = |at: usize| score_of(percent_output(hour.powers[at], planned[at], hour.capacity), hour.frequencies[judged_by(at)]);
+    let second = |at: usize| score_of(percent_output(hour.powers[at], planned[at], hour.capacity), hour.frequencies[judged_by(at)], reference);
     (0..hour.powers.len()).map(second).collect()
 }
 
@@ -635,6 +663,7 @@ fn hour_refused(hour: &Hour) -> Answer<()> {
         &[
             (1, !hour.earlier.counts()),
             (2, !CAPACITY.hold(hour.capacity)),
+            (19, hour.reference.is_some_and(|reference| !reference_fits(reference))),
             (3, !(award && shift_prices)),
             (5, !bands_fit(&hour.bands)),
             (10, !shift_targets),

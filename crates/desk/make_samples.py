@@ -54,7 +54,7 @@ def asked_pair(frequency, power):
 
 # ---- the sample hour: a frequency that wanders, a power that follows the curve and stumbles for three seconds
 
-CAPACITY, CLEARING, PERFORMANCE = 10000, 44000, 35000
+CAPACITY, REFERENCE, CLEARING, PERFORMANCE = 10000, 60000, 44000, 35000
 draw = random.Random(2210)
 powers, frequencies, f = [], [], 60000
 for second in range(3600):
@@ -67,7 +67,7 @@ bands = [n for pair in model.LIST_S for n in pair]
 terms = (CAPACITY, CLEARING, PERFORMANCE, 0, 0, [0] * 5)
 settled, scores = model.hour(powers, frequencies, [0] * 3600, terms, model.THRESHOLDS, model.FACTORS)
 columns = "".join(f"{p} {f}\n" for p, f in zip(powers, frequencies))
-award = words(CAPACITY, CLEARING, PERFORMANCE)
+award = words(CAPACITY, REFERENCE, CLEARING, PERFORMANCE)
 list_s = words(len(model.LIST_S), *bands)
 hour = f"{award}\n{list_s}\n0\n{columns}"
 
@@ -80,6 +80,22 @@ moved_settled, moved_scores = model.hour(moved, frequencies, [0] * 3600, moved_t
 assert moved_scores == scores
 moved_columns = "".join(f"{p} {f}\n" for p, f in zip(moved, frequencies))
 moved_hour = f"{award} {words(DISCHARGE, CHARGE, *TARGETS)}\n{list_s}\n0\n{moved_columns}"
+
+# ---- both hours by a moved reference (document 02, #107): every frequency moves with it, so that the scores are the same
+
+
+def by_reference(by, powers, rest=""):
+    """An hour's numbers, with the reference and every frequency moved."""
+    columns = "".join(f"{p} {f + by}\n" for p, f in zip(powers, frequencies))
+    return f"{words(CAPACITY, REFERENCE + by, CLEARING, PERFORMANCE)}{rest}\n{list_s}\n0\n{columns}"
+
+
+def moved_scores_of(by):
+    return model.hour(powers, [f + by for f in frequencies], [0] * 3600, terms, model.THRESHOLDS, model.FACTORS, [], REFERENCE + by)[1]
+
+
+assert moved_scores_of(-500) == moved_scores_of(500) == scores
+shifting = " " + words(DISCHARGE, CHARGE, *TARGETS)
 
 # ---- an hour at 60 Hz whose first second scores 0, by itself and after an hour
 
@@ -104,7 +120,7 @@ def static(powers, frequencies, earlier=(), state=(0, 0, 0)):
     """An sReg hour's numbers after its terms, its answer, and its scores."""
     settled, scores, ended = model.sreg_hour(powers, frequencies, [0] * 3600, (CAPACITY, CLEARING, PERFORMANCE), model.FACTORS, list(earlier), state)
     columns = "".join(f"{p} {f}\n" for p, f in zip(powers, frequencies))
-    return f"{award} {list_s} {words(len(earlier), *earlier)} {words(*state)}\n{columns}", (*settled, *ended), scores
+    return f"{words(CAPACITY, CLEARING, PERFORMANCE)} {list_s} {words(len(earlier), *earlier)} {words(*state)}\n{columns}", (*settled, *ended), scores
 
 
 table = [20000] * 11 + [30000] * 9 + [10000, 11000, 15000, 11000, 11000, 13000, 10500, 10000, 9000, 14000, 10000]
@@ -141,8 +157,8 @@ def no_verdict(refusal, numbers):
 
 
 with open(os.path.join(ROOT, "samples/hour"), "w") as out:
-    out.write("# A dReg hour of 10,000 kW at 440 and 350 dollars a MW, with list S; a 0, for no scores of the hour before (or 3 and its last three); then a\n")
-    out.write("# line a second: the power of second t in kW and the frequency of second t-1 in mHz.\n")
+    out.write("# A dReg hour of 10,000 kW by a reference of 60,000 mHz, at 440 and 350 dollars a MW, with list S; a 0, for no scores of the hour before (or 3\n")
+    out.write("# and its last three); then a line a second: the power of second t in kW and the frequency of second t-1 in mHz.\n")
     out.write("dreg " + hour)
 with open(os.path.join(ROOT, "samples/hour.answers"), "w") as out:
     out.write(words(*settled) + "\n")
@@ -161,9 +177,20 @@ for path, content in (("samples/logger", logged), ("crates/import/stdin", logged
 
 asked = [
     ("kilowatts 5", words(0, 5000)),
-    ("curve 59920", words(*model.curve(59920))),
-    ("curve 54999", words(4, 0, 0)),
-    ("score 5100 5000 10000 60000", words(0, model.score(5100, 5000, 10000, 60000))),
+    ("curve 59920 60000", words(*model.curve(59920))),
+    ("curve 54999 60000", words(4, 0, 0)),
+    # the lowest corner, moved; 19 for a reference outside its range, and before 4
+    ("curve 60050 60300", words(0, 100, 100)),
+    ("curve 59250 59500", words(0, 100, 100)),
+    ("curve 59900 59499", words(19, 0, 0)),
+    ("curve 54999 60501", words(19, 0, 0)),
+    ("score 5100 5000 10000 60000 60000", words(0, model.score(5100, 5000, 10000, 60000))),
+    # document 001, example 2, moved by 300 and by -500; 2, then 19, then 10
+    ("score 4300 0 10000 60200 60300", words(0, 95)),
+    ("score 4300 0 10000 59400 59500", words(0, 95)),
+    ("score 0 100001 0 60000 60501", words(2, 0)),
+    ("score 0 100001 1 60000 60501", words(19, 0)),
+    ("score 0 100001 1 60000 60500", words(10, 0)),
     ("ramp 0 5000", words(0, *(model.planned(0, 5000, n) for n in range(1, 901)))),
     ("ramp 0 100001", "10"),
     ("rate 0 " + "100 " * 3596 + "94,94,94,94", words(0, 94)),
@@ -207,15 +234,26 @@ asked = [
     ("edreg " + moved_hour, words(*moved_settled)),
     ("dreg_scores " + hour, words(0, *scores)),
     ("edreg_scores " + moved_hour, words(0, *scores)),
+    ("dreg " + by_reference(-500, powers), words(*settled)),
+    ("edreg " + by_reference(500, moved, shifting), words(*moved_settled)),
+    ("dreg_scores " + by_reference(-500, powers), words(0, *scores)),
+    ("dreg_frame 12 17 " + by_reference(-500, powers), frame(1, 12, 17, settled[7])),
+    ("edreg_frame 12 18 " + by_reference(500, moved, shifting), frame(1, 12, 18, moved_settled[7])),
+    # 2, then 19, then 3
+    ("dreg 0 60501 -1 0 1 0 0 0 " + "0 60000 " * 3600, words(2, *[0] * 7)),
+    ("dreg 1 60501 -1 0 1 0 0 0 " + "0 60000 " * 3600, words(19, *[0] * 7)),
+    ("dreg 1 60500 -1 0 1 0 0 0 " + "0 60000 " * 3600, words(3, *[0] * 7)),
+    ("edreg_scores 1 59499 -1 " + "0 " * 8 + "1 0 0 0 " + "0 60000 " * 3600, "19"),
+    ("dreg_frame 300 0 1 60501 0 0 1 0 0 0 " + "0 60000 " * 3600, "19"),
     ("dreg " + alone, words(*alone_settled)),
     ("dreg " + after, words(*after_settled)),
     ("dreg_scores " + after, words(0, *after_scores)),
     ("edreg " + small_after, words(*small_settled)),
     # a wrong number of earlier scores is refused first, an earlier score above 100 last
-    ("dreg 0 0 0 1 0 0 101 " + "0 0 " * 3600, words(1, *[0] * 7)),
-    ("dreg 0 0 0 1 0 0 3 101 0 0 " + "0 0 " * 3600, words(2, *[0] * 7)),
-    ("dreg 1 0 0 1 0 0 3 101 0 0 " + "0 60000 " * 3600, words(4, *[0] * 7)),
-    ("edreg_scores " + "0 " * 10 + "0 2 101 0 " + "0 0 " * 3600, "1"),
+    ("dreg 0 0 0 0 1 0 0 101 " + "0 0 " * 3600, words(1, *[0] * 7)),
+    ("dreg 0 0 0 0 1 0 0 3 101 0 0 " + "0 0 " * 3600, words(2, *[0] * 7)),
+    ("dreg 1 60000 0 0 1 0 0 3 101 0 0 " + "0 60000 " * 3600, words(4, *[0] * 7)),
+    ("edreg_scores " + "0 " * 11 + "0 2 101 0 " + "0 0 " * 3600, "1"),
     ("sreg " + event, words(*event_settled)),
     ("sreg_scores " + event, words(0, *event_scores)),
     ("sreg " + first, words(*first_settled)),
@@ -231,7 +269,7 @@ asked = [
     ("edreg_frame 12 15 " + moved_hour, frame(1, 12, 15, moved_settled[7])),
     ("edreg_frame 12 16 " + small_after, frame(1, 12, 16, small_settled[7])),
     # a capacity of 0 is refused before the day is looked at
-    ("edreg_frame 300 0 " + "0 " * 10 + "0 0 " + "0 " * 7200, "2"),
+    ("edreg_frame 300 0 " + "0 " * 11 + "0 0 " + "0 " * 7200, "2"),
     ("frame 6 0 0 100800", frame(6, 0, 0, 100800)),
     ("loss_frames 120000 84000 22800 40000", frame(4, 0, 0, 151200) + "\n" + frame(6, 0, 0, 100800)),
     ("loss_frames 120000 96000 22800 40000", frame(4, 0, 0, 100800) + "\n" + frame(6, 0, 0, 0)),
@@ -259,7 +297,11 @@ faults = [
     ("curve", "103 too few numbers"),
     ("rate 3 100 100", "103 too few numbers"),
     ("reached 95 3 100", "103 too few numbers"),
-    ("curve 1 2", "104 too many numbers"),
+    # a curve, a score and an hour without the reference
+    ("curve 59920", "103 too few numbers"),
+    ("score 5100 5000 10000 60000", "103 too few numbers"),
+    ("dreg 1 0 0 2 95 10 0 -10 0 " + seconds, "103 too few numbers"),
+    ("curve 1 2 3", "104 too many numbers"),
     ("pair 1", "103 too few numbers"),
     ("pair_frame 1 2 3 4", "104 too many numbers"),
     # an sReg hour without its state

@@ -21,17 +21,26 @@ CORNERS = [(59750, 100, 100), (59860, 52, 52), (59980, 9, -9), (60020, 9, -9), (
 
 
 @cache
-def bound(f, which):
-    if f <= CORNERS[0][0]:
-        return CORNERS[0][which]
-    for p, q in zip(CORNERS, CORNERS[1:]):
+def moved(reference):
+    """Every corner moves with the reference."""
+    return [(f + reference - 60000, upper, lower) for f, upper, lower in CORNERS]
+
+
+@cache
+def bound(f, which, reference=60000):
+    corners = moved(reference)
+    if f <= corners[0][0]:
+        return corners[0][which]
+    for p, q in zip(corners, corners[1:]):
         if f <= q[0]:
             return nearest(p[which] + Fraction(f - p[0], q[0] - p[0]) * (q[which] - p[which]))
-    return CORNERS[-1][which]
+    return corners[-1][which]
 
 
-def curve(f):
-    return (0, bound(f, 1), bound(f, 2)) if 55000 <= f <= 65000 else (4, 0, 0)
+def curve(f, reference=60000):
+    if not 59500 <= reference <= 60500:
+        return 19, 0, 0
+    return (0, bound(f, 1, reference), bound(f, 2, reference)) if 55000 <= f <= 65000 else (4, 0, 0)
 
 
 LEAST, MOST = -(2**63), 2**63 - 1
@@ -46,6 +55,21 @@ for label, f in [("worked", 59900), ("tie", 59920), ("tie", 60080), ("worked", 5
 line("frequencies at and past the limits")
 for label, f in [("least", 55000), ("most", 65000), ("below", 54999), ("above", 65001), ("zero", 0), ("i64", LEAST), ("i64", MOST)]:
     line(label, f, *curve(f))
+line("document 02, #107: the curve by a moved reference")
+for by, words in [(300, "and 0.3"), (-500, "less 0.5")]:
+    for f, upper, lower in CORNERS:
+        assert curve(f + by, 60000 + by) == (0, upper, lower)
+        line("%.2f" % (f / 1000), words, f + by, 60000 + by, *curve(f + by, 60000 + by))
+for label, f, reference in [
+    ("most", 60400, 60500),
+    ("least", 59400, 59500),
+    ("below", 59400, 59499),
+    ("above", 60400, 60501),
+    ("above, and the frequency", 54999, 60501),
+    ("the frequency", 54999, 60500),
+    ("i64", LEAST, MOST),
+]:
+    line(label, f, reference, *curve(f, reference))
 line("megawatts to kilowatts")
 for mw in [5, -8, 0, 100, -100, 101, -101, LEAST, MOST]:
     line("MW", mw, *((0, mw * 1000) if -100 <= mw <= 100 else (10, 0)))
@@ -321,16 +345,26 @@ ramp("901 places", 0, 5000, [7] * 901)
 
 
 @cache
-def score(power, transfer, capacity, f):
+def score(power, transfer, capacity, f, reference=60000):
     output = nearest(Fraction(100 * (power - transfer), capacity))
-    _, upper, lower = curve(f)
+    _, upper, lower = curve(f, reference)
     return 100 if lower <= output <= upper else max(0, 100 - min(abs(output - upper), abs(output - lower)))
 
 
+def judged(power, transfer, capacity, f, reference):
+    if not 1 <= capacity <= 100000:
+        return 2, 0
+    if not 59500 <= reference <= 60500:
+        return 19, 0
+    if abs(transfer) > 100000:
+        return 10, 0
+    if abs(power) > 200000 or not 55000 <= f <= 65000:
+        return 4, 0
+    return 0, score(power, transfer, capacity, f, reference)
+
+
 def second(power, transfer, capacity, f):
-    k = 4 if abs(power) > 200000 or not 55000 <= f <= 65000 else 0
-    k = 2 if not 1 <= capacity <= 100000 else 10 if abs(transfer) > 100000 else k
-    s = 0 if k else score(power, transfer, capacity, f)
+    k, s = judged(power, transfer, capacity, f, 60000)
     line("second", power, transfer, capacity, f, k, s)
     return s
 
@@ -400,6 +434,27 @@ for reading in [
     (0, 0, 1, MOST),
 ]:
     second(*reading)
+
+line("document 02, #107: example 2 by a moved reference")
+for by in (300, -500):
+    assert [judged(power, 0, 10000, 59900 + by, 60000 + by) for power in (4300, 3500)] == [(0, 95), (0, 100)]
+for reading in [
+    (4300, 0, 10000, 60200, 60300),
+    (3500, 0, 10000, 60200, 60300),
+    (4300, 0, 10000, 59400, 59500),
+    (3500, 0, 10000, 59400, 59500),
+    (4300, 0, 10000, 59900, 60300),
+    (4300, 0, 10000, 60400, 60500),
+    (4300, 0, 10000, 59900, 59499),
+    (4300, 0, 10000, 59900, 60501),
+    (4300, 0, 0, 59900, 60501),
+    (4300, 100001, 10000, 59900, 60501),
+    (200001, 0, 10000, 59900, 60501),
+    (4300, 100001, 10000, 59900, 60500),
+    (0, 0, 1, 60000, LEAST),
+    (0, 0, 1, 60000, MOST),
+]:
+    line("around", *reading, *judged(*reading))
 
 line("document 001, table 2: rolling rates and the hourly rate")
 ELEVEN = [100, 90, 50, 90, 90, 70, 95, 100, 100, 60, 100]

@@ -244,12 +244,14 @@ total(m, 0, -8559)
 # ---- whole hours
 
 
-def hour(powers, frequencies, scores, terms, thresholds, factors, earlier=[]):
+def hour(powers, frequencies, scores, terms, thresholds, factors, earlier=[], reference=60000):
     capacity, clearing, performance, discharge, charge, targets = terms
     if not len(powers) == len(frequencies) == len(scores) == 3600 or len(earlier) not in (0, 3):
         return [1] + [0] * 7, scores
     if not 1 <= capacity <= 100000:
         return [2] + [0] * 7, scores
+    if not 59500 <= reference <= 60500:
+        return [19] + [0] * 7, scores
     if not all(map(is_price, (clearing, performance, discharge, charge))):
         return [3] + [0] * 7, scores
     if not bands_fit(thresholds, factors):
@@ -259,7 +261,7 @@ def hour(powers, frequencies, scores, terms, thresholds, factors, earlier=[]):
     if max(map(abs, powers)) > 200000 or min(frequencies) < 55000 or max(frequencies) > 65000 or max(earlier, default=0) > 100:
         return [4] + [0] * 7, scores
     plan = transfers(targets)
-    scores = [score(p, t, capacity, f) for p, t, f in zip(powers, plan, frequencies)]
+    scores = [score(p, t, capacity, f, reference) for p, t, f in zip(powers, plan, frequencies)]
     r = min(rolling(scores, earlier))
     tenths = factor(thresholds, factors, r)[1]
     first, second = fee(clearing, capacity)[1], fee(performance, capacity)[1]
@@ -275,8 +277,8 @@ def terms_of(targets):
     return 10000, 43000, 35000, 200000, 50000, targets
 
 
-def work(label, powers, frequencies, terms, thresholds=THRESHOLDS, factors=FACTORS, places=3600, earlier=[]):
-    s, scores = hour(powers, frequencies, [7] * places, terms, thresholds, factors, earlier)
+def work(label, powers, frequencies, terms, thresholds=THRESHOLDS, factors=FACTORS, places=3600, earlier=[], reference=60000):
+    s, scores = hour(powers, frequencies, [7] * places, terms, thresholds, factors, earlier, reference)
     line(label, *s, mixed(scores))
     return s
 
@@ -378,8 +380,8 @@ attempt("neither", 1, short, short, 10000, 50000, 10, 0)
 line("joint calls")
 
 
-def join(label, k, powers, target, m, d, h, earlier=[]):
-    s, _ = hour(powers, still, zeros, terms_of([0, 0, 0, 0, target]), THRESHOLDS, FACTORS, earlier)
+def join(label, k, powers, target, m, d, h, earlier=[], frequencies=still, reference=60000):
+    s, _ = hour(powers, frequencies, zeros, terms_of([0, 0, 0, 0, target]), THRESHOLDS, FACTORS, earlier, reference)
     if s[0] == 0:
         s[0], m = m.post(d, h, s[7])
         s = s if s[0] == 0 else [s[0]] + [0] * 7
@@ -453,6 +455,46 @@ m = join("none, a zero", 0, some, 0, m, 3, 10)
 m = join("100 100 100, a zero", 0, some, 0, m, 3, 11, [100] * 3)
 m = join("two", 1, some, 0, m, 3, 12, [100] * 2)
 join("101, place filled", 4, some, 0, m, 3, 10, [100, 101, 100])
+
+
+# ---- a moved reference
+
+line("document 02, #107: hours by a moved reference")
+swing = [2000, -2500] * 1800
+for name, terms, up in [("dReg", (10000, 43000, 35000, 0, 0, [0] * 5), 300), ("E-dReg", terms_of(discharging), 500)]:
+    answers = []
+    for label, by, reference in [("as it is", 0, 60000), ("moved by -500", -500, 59500), ("moved by %d" % up, up, 60000 + up)]:
+        frequencies = [f + by for f in wavering]
+        answers.append(hour(swing, frequencies, zeros, terms, THRESHOLDS, FACTORS, [], reference))
+        work(name + ", " + label, swing, frequencies, terms, reference=reference)
+    assert answers[0] == answers[1] == answers[2]
+    alone = 59500 if name == "dReg" else 60500
+    assert hour(swing, wavering, zeros, terms, THRESHOLDS, FACTORS, [], alone)[1] != answers[0][1]
+    work(name + ", the reference alone", swing, wavering, terms, reference=alone)
+
+line("refused references: 19 after 2 and before 3")
+for label, k, capacity, reference, clearing, last in [
+    ("least", 0, 10000, 59500, 43000, 0),
+    ("most", 0, 10000, 60500, 43000, 0),
+    ("below", 19, 10000, 59499, 43000, 0),
+    ("above", 19, 10000, 60501, 43000, 0),
+    ("and capacity 0", 2, 0, 60501, 43000, 0),
+    ("and a price", 19, 10000, 60501, -1, 0),
+    ("and a power", 19, 10000, 60501, 43000, 200001),
+    ("i64", 19, 10000, LEAST, 43000, 0),
+]:
+    powers = zeros[1:] + [last]
+    for shift in [(0, 0, [0] * 5), (200000, 50000, discharging)]:
+        assert work(label, powers, still, (capacity, clearing, 35000, *shift), reference=reference)[0] == k
+
+line("joint calls by a moved reference")
+_, m = opened(30)
+some = [3500] * 3600
+m = join("as it is", 0, some, 0, m, 3, 10, [], [59900] * 3600)
+m = join("moved by -500", 0, some, 0, m, 3, 11, [], [59400] * 3600, 59500)
+m = join("the reference alone", 0, some, 0, m, 3, 12, [], [59900] * 3600, 59500)
+m = join("above", 19, some, 0, m, 3, 13, [], [59900] * 3600, 60501)
+join("above, place filled", 19, some, 0, m, 3, 10, [], [59900] * 3600, 60501)
 
 
 # ---- static regulation (document 02, #103): by the list of seconds, without a state

@@ -8,6 +8,7 @@ use hour::Settlement;
 use hour::Shift;
 use hour::Terms;
 use units::Kilowatts;
+use units::Millihertz;
 use units::limits;
 
 // Document 01's list S.
@@ -16,16 +17,17 @@ pub const THRESHOLDS: [i64; 7] = [95, 94, 93, 92, 91, 70, 0];
 pub const FACTORS: [i64; 7] = [10, 8, 6, 4, 2, 0, -10];
 
 // No transfer.
-pub(crate) fn dreg(capacity: u64, count: u64) -> u64 {
-    run(false, capacity, [0; 5], count)
+pub(crate) fn dreg(capacity: u64, reference: u64, count: u64) -> u64 {
+    run(false, capacity, reference, [0; 5], count)
 }
 
 // Every quarter ramps, up and down.
-pub(crate) fn edreg(capacity: u64, count: u64) -> u64 {
-    run(true, capacity, [2_000, -3_000, 5_000, -8_000, 4_000], count)
+pub(crate) fn edreg(capacity: u64, reference: u64, count: u64) -> u64 {
+    let targets = [2_000, -3_000, 5_000, -8_000, 4_000];
+    run(true, capacity, reference, targets, count)
 }
 
-fn run(shifting: bool, capacity: u64, targets: [i64; 5], count: u64) -> u64 {
+fn run(shifting: bool, capacity: u64, reference: u64, targets: [i64; 5], count: u64) -> u64 {
     let mut powers = [0; limits::SECONDS];
     let mut frequencies = [0; limits::SECONDS];
     let mut transfers = [0; limits::SECONDS];
@@ -40,6 +42,7 @@ fn run(shifting: bool, capacity: u64, targets: [i64; 5], count: u64) -> u64 {
         &transfers,
         capacity,
         terms_of(capacity),
+        Millihertz((reference % 1_000_000) as i64),
         shift_of(targets),
         &mut scores,
         count,
@@ -53,6 +56,7 @@ fn hours(
     transfers: &[i64],
     capacity: u64,
     terms: Terms,
+    reference: Millihertz,
     shift: Shift,
     scores: &mut [u8],
     count: u64,
@@ -63,7 +67,16 @@ fn hours(
     while n < count {
         x = chance::next(x);
         redraw(powers, n, x, capacity, transfers);
-        sum = with_hour(sum, shifting, powers, frequencies, terms, shift, scores);
+        sum = with_hour(
+            sum,
+            shifting,
+            powers,
+            frequencies,
+            terms,
+            reference,
+            shift,
+            scores,
+        );
         n += 1;
     }
     sums::with_scores(sum, scores)
@@ -84,6 +97,7 @@ fn with_hour(
     powers: &[i64],
     frequencies: &[i64],
     terms: Terms,
+    reference: Millihertz,
     shift: Shift,
     scores: &mut [u8],
 ) -> u64 {
@@ -93,6 +107,7 @@ fn with_hour(
         powers,
         frequencies,
         terms,
+        reference,
         shift,
         &earlier,
         scores,
@@ -117,6 +132,7 @@ fn settled(
     powers: &[i64],
     frequencies: &[i64],
     terms: Terms,
+    reference: Millihertz,
     shift: Shift,
     earlier: &[u8],
     scores: &mut [u8],
@@ -126,6 +142,7 @@ fn settled(
             powers,
             frequencies,
             terms,
+            reference,
             shift,
             &THRESHOLDS,
             &FACTORS,
@@ -137,6 +154,7 @@ fn settled(
         powers,
         frequencies,
         terms,
+        reference,
         &THRESHOLDS,
         &FACTORS,
         earlier,

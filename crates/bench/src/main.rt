@@ -1,8 +1,9 @@
 // The benchmarks: ledger calls in place, in order and by chance, and by chance on a month by value; frames read from
 // lines in memory and frames written; whole hours, dReg, E-dReg, and sReg by a frequency that wanders and by one that
-// lies anywhere. Standard input has twelve numbers: the month's days, 1 for a closed month and 0 for an open one, how
-// many calls of each of the three ways, how many frames are read and written, the capacity in kW, and how many hours of
-// each of the four kinds. For each count that is not 0, the count and a check sum are printed. The peers are in bench/.
+// lies anywhere. Standard input has thirteen numbers: the month's days, 1 for a closed month and 0 for an open one, how
+// many calls of each of the three ways, how many frames are read and written, the capacity in kW and the reference in
+// mHz, and how many hours of each of the four kinds. For each count that is not 0, the count and a check sum are
+// printed. The peers are in bench/.
 mod calls;
 mod chance;
 mod draw;
@@ -69,20 +70,25 @@ fn frames_both_ways(input: &[u8]) {
 
 fn whole_hours(input: &[u8]) {
     let capacity = report::count(input, 7);
-    let plain = report::count(input, 8);
-    let shifting = report::count(input, 9);
+    let reference = report::count(input, 8);
+    let plain = report::count(input, 9);
+    let shifting = report::count(input, 10);
     if plain != 0 {
-        report::line(b"dReg", plain, hours::dreg(capacity, plain));
+        report::line(b"dReg", plain, hours::dreg(capacity, reference, plain));
     }
     if shifting != 0 {
-        report::line(b"E-dReg", shifting, hours::edreg(capacity, shifting));
+        report::line(
+            b"E-dReg",
+            shifting,
+            hours::edreg(capacity, reference, shifting),
+        );
     }
 }
 
 fn whole_sreg_hours(input: &[u8]) {
     let capacity = report::count(input, 7);
-    let wandering = report::count(input, 10);
-    let by_chance = report::count(input, 11);
+    let wandering = report::count(input, 11);
+    let by_chance = report::count(input, 12);
     if wandering != 0 {
         report::line(
             b"sReg",

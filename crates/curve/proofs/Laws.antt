@@ -9,12 +9,13 @@ use lib.Signed.{leZ}
 use Rattle.whole.specs.Whole.{minus, up, down, nearest, withSign, halfUp}
 use Rattle.whole.proofs.Choice.{by-test}
 use Rattle.whole.proofs.Signed.{signed, sum, difference}
-use Rattle.curve.specs.Curve.{reference, reach, Corner, corner, atDistance, upperAt, lowerAt, firstFrequency, lastPlace}
-use Rattle.curve.specs.Inner.{placeBy, placeAt}
+use Rattle.units.specs.Limits.{nominal}
+use Rattle.curve.specs.Curve.{reach, Corner, corner, atDistance, upperAt, lowerAt, movedBack, firstFrequency, lastPlace}
+use Rattle.curve.specs.Inner.{pastFirst, placeOf, placeBy, placeAt}
 
 -- the distance of the place that a distance is read at
 abbrev pub clip : ℤ → ℤ
-clip d = pos (firstFrequency + placeBy d) -ℤ pos reference
+clip d = pos (firstFrequency + placeBy d) -ℤ pos nominal
 
 -- the last line ends in the last corner
 abbrev pub Ends : (Corner → ℤ) → Type 0
@@ -25,15 +26,30 @@ above-zero (pos n) = omega arith
 above-zero (negsuc n) = omega arith
 
 -- the place, as `omega` reads it
+pub placed : (steps : ℤ) → placeOf steps ≡ min (up steps - down steps) lastPlace
+unfolding placeOf
+placed steps = omega (arith, above-zero steps)
+
 by-distance : (d : ℤ) → placeBy d ≡ min ((up d + reach) - down d) lastPlace
-by-distance d = omega (arith, sum d (pos reach), above-zero (d +ℤ pos reach))
+by-distance d = omega (arith, sum d (pos reach), placed (d +ℤ pos reach))
 
-pub placed : (f : ℤ) → placeAt f ≡ min ((up f - down f) - firstFrequency) lastPlace
+-- so far past the moved first corner is read the frequency moved back
+pub place-moved : (r f : ℤ) → placeOf (pastFirst r f) ≡ placeAt (movedBack r f)
 unfolding placeAt
-placed f = omega (arith, by-distance (f -ℤ pos reference), difference f (pos reference), above-zero f)
+place-moved r f =
+    omega (
+      arith,
+      placed (pastFirst r f),
+      by-distance (movedBack r f -ℤ pos nominal),
+      difference r (pos reach),
+      difference f (r -ℤ pos reach),
+      difference r (pos nominal),
+      difference f (r -ℤ pos nominal),
+      difference (movedBack r f) (pos nominal),
+    )
 
-clip-is : (d : ℤ) → up (clip d) + reference ≡ (firstFrequency + placeBy d) + down (clip d)
-clip-is d = omega (arith, difference (pos (firstFrequency + placeBy d)) (pos reference))
+clip-is : (d : ℤ) → up (clip d) + nominal ≡ (firstFrequency + placeBy d) + down (clip d)
+clip-is d = omega (arith, difference (pos (firstFrequency + placeBy d)) (pos nominal))
 
 module _ (percent : Corner → ℤ) (ends : Ends percent) where
   before : (d : ℤ) → leZ d (minus reach) ≡ true → atDistance percent d ≡ atDistance percent (minus reach)
@@ -66,8 +82,8 @@ module _ (percent : Corner → ℤ) (ends : Ends percent) where
 -- the frequency of the place that a frequency is read at has its bounds
 pub upper-placed : (f : ℤ) → upperAt (pos (firstFrequency + placeAt f)) ≡ upperAt f
 unfolding upperAt placeAt nearest withSign halfUp
-upper-placed f = clipped (λ (c : Corner). c .upper) refl (f -ℤ pos reference)
+upper-placed f = clipped (λ (c : Corner). c .upper) refl (f -ℤ pos nominal)
 
 pub lower-placed : (f : ℤ) → lowerAt (pos (firstFrequency + placeAt f)) ≡ lowerAt f
 unfolding lowerAt placeAt nearest withSign halfUp
-lower-placed f = clipped (λ (c : Corner). c .lower) refl (f -ℤ pos reference)
+lower-placed f = clipped (λ (c : Corner). c .lower) refl (f -ℤ pos nominal)

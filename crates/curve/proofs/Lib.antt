@@ -5,3 +5,4 @@ pub mod Limits
 pub mod Accepted
 mod Determined
 mod RefusedKeeps
+pub mod Moved

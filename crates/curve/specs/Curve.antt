@@ -1,20 +1,17 @@
 -- Document 01, "The power curve" (document 001, table 1): upper and lower power in percent of capacity, straight between the corners. The table stands by distances
--- from a reference frequency, which is 60 Hz.
+-- from a reference frequency, which is 60 Hz where nobody moves it (document 02, #107).
 use Prim.Native.Nat.{ℕ, zero, suc, _+_, _*_, _-_}
 use mathlib.Core.List.{List, [], _∷_}
 use lib.IntN.{ℤ, pos, natAbs, _+ℤ_, _-ℤ_, _*ℤ_}
 use lib.Signed.{leZ}
-use Rattle.whole.specs.Choice.{pick}
+use Rattle.whole.specs.Choice.{pick, inOrder, kept}
 use Rattle.whole.specs.Whole.{minus, nearest}
-use Rattle.units.specs.Limits.{isFrequency}
-use Rattle.units.specs.Refusals.{badReading}
+use Rattle.units.specs.Limits.{nominal, isReference, isFrequency}
+use Rattle.units.specs.Refusals.{badReference, badReading}
 use Rattle.units.specs.declared.Millihertz.{Millihertz}
 use Rattle.curve.specs.declared.Bounds.{Bounds}
 
--- the reference frequency, how far from it the outer corners are, in millihertz, and the percent there
-abbrev pub reference : ℕ
-reference = 60000
-
+-- how far from the reference the outer corners are, in millihertz, and the percent there
 abbrev pub reach : ℕ
 reach = 250
 
@@ -59,10 +56,20 @@ abbrev pub bound : (Corner → ℤ) → ℤ → ℤ → ℤ
 bound percent around f = atDistance percent (f -ℤ around)
 
 unfoldable pub upperAt : ℤ → ℤ
-upperAt f = bound (λ (c : Corner). c .upper) (pos reference) f
+upperAt f = bound (λ (c : Corner). c .upper) (pos nominal) f
 
 unfoldable pub lowerAt : ℤ → ℤ
-lowerAt f = bound (λ (c : Corner). c .lower) (pos reference) f
+lowerAt f = bound (λ (c : Corner). c .lower) (pos nominal) f
+
+-- "every corner moves with [the reference]" (document 02, #107): by a reference, the bounds of a frequency are those of the frequency less (reference - 60,000)
+abbrev pub movedBack : ℤ → ℤ → ℤ
+movedBack reference f = f -ℤ (reference -ℤ pos nominal)
+
+abbrev pub upperBy : ℤ → ℤ → ℤ
+upperBy reference f = upperAt (movedBack reference f)
+
+abbrev pub lowerBy : ℤ → ℤ → ℤ
+lowerBy reference f = lowerAt (movedBack reference f)
 
 abbrev pub boundsAt : ℤ → Bounds
 boundsAt f = record { refusal = 0; upper = upperAt f; lower = lowerAt f }
@@ -70,9 +77,13 @@ boundsAt f = record { refusal = 0; upper = upperAt f; lower = lowerAt f }
 abbrev pub noBounds : ℕ → Bounds
 noBounds k = record { refusal = k; upper = pos 0; lower = pos 0 }
 
--- the pair of a frequency in its range; others are refused with 4
-unfoldable pub curveAt : Millihertz → Bounds
-curveAt frequency = pick (isFrequency (frequency .0)) (boundsAt (frequency .0)) (noBounds badReading)
+-- 19, 4
+unfoldable pub curveRefusal : Millihertz → Millihertz → ℕ
+curveRefusal frequency reference = inOrder ((isReference (reference .0), badReference) ∷ (isFrequency (frequency .0), badReading) ∷ [])
+
+-- the pair of a frequency by a reference, each in its range
+unfoldable pub curveAt : Millihertz → Millihertz → Bounds
+curveAt frequency reference = let k = curveRefusal frequency reference in kept k (boundsAt (movedBack (reference .0) (frequency .0))) (noBounds k)
 
 -- n pairs, an upper bound and its lower one, from the frequency f on
 abbrev pub pairsFrom : ℕ → ℕ → List ℤ
@@ -81,7 +92,7 @@ pairsFrom f (suc n) = upperAt (pos f) ∷ lowerAt (pos f) ∷ pairsFrom (suc f) 
 
 -- "a table of 501 pairs, one for each millihertz from 59,750 to 60,250": from the first corner to the last
 abbrev pub firstFrequency : ℕ
-firstFrequency = reference - reach
+firstFrequency = nominal - reach
 
 abbrev pub lastPlace : ℕ
 lastPlace = 2 * reach

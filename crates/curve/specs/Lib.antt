@@ -1,3 +1,4 @@
 -- The power curve.
 pub mod Curve
+pub mod Moved
 pub mod Inner

@@ -1,23 +1,22 @@
-// The power curve (document 001, table 1): a frequency's upper and lower power in percent of capacity.
+// The power curve (document 001, table 1): a frequency's upper and lower power in percent of capacity, by a reference
+// that may be moved.
 ghost use mathlib.Core.Path.{_≡_};
-ghost use Rattle.curve.specs.Curve.{curveAt, boundsAt, pairsOf};
-ghost use Rattle.curve.specs.Inner.{placeAt};
+ghost use Rattle.curve.specs.Curve.{curveRefusal, curveAt, movedBack, boundsAt, pairsOf};
+ghost use Rattle.curve.specs.Moved.{CurveFits};
+ghost use Rattle.curve.specs.Inner.{placeOf};
 use units::Millihertz;
 use units::limits;
+use units::refusals;
 
 mod table;
 
-// The reference frequency, and how far from it the outer corners are.
-const REFERENCE: i64 = 60_000;
+// How far from the reference the outer corners are.
+pub const REACH: i64 = 250;
 
-const REACH: i64 = 250;
+// From the first to the last, and the place of the last pair.
+const SPAN: i64 = 2 * REACH;
 
-// The ends of the table.
-const FIRST: i64 = REFERENCE - REACH;
-
-const LAST: i64 = REFERENCE + REACH;
-
-const LAST_PLACE: usize = 2 * REACH as usize;
+const LAST_PLACE: usize = SPAN as usize;
 
 // An upper and a lower bound for each of its places.
 const ENTRIES: usize = 4 * REACH as usize + 2;
@@ -29,34 +28,45 @@ pub struct Bounds {
     pub lower: i64,
 }
 
-// The curve at a frequency: below the table its first pair, above it its last.
-pub fn curve(frequency: Millihertz) -> Bounds
-    ensures { λ r. ⌜ r ≡ curveAt frequency ⌝ }
+// The curve at a frequency by a reference, with which every corner moves: the table at the frequency moved back, below
+// it its first pair, above it its last.
+pub fn curve(frequency: Millihertz, reference: Millihertz) -> Bounds
+    ensures { λ r. ⌜ r ≡ curveAt frequency reference ⌝ }
 {
-    let f = frequency.0;
-    if whole::within(f, limits::LEAST_FREQUENCY, limits::MOST_FREQUENCY) {
-        return bounds_at(frequency);
+    let k = refusal(frequency, reference);
+    if k != 0 {
+        return Bounds {
+            refusal: k,
+            upper: 0,
+            lower: 0,
+        };
     }
-    Bounds {
-        refusal: units::refusals::BAD_READING,
-        upper: 0,
-        lower: 0,
-    }
+    bounds_at(frequency, reference)
 }
 
-// The place among the table's pairs that a frequency is read at: its distance from the table's start, and the nearer
-// end for one outside.
-pub fn place(frequency: Millihertz) -> usize
-    ensures { λ r. ⌜ r ≡ placeAt (frequency .0) ⌝ }
+// 19, 4; 0 lets the frequency through.
+fn refusal(frequency: Millihertz, reference: Millihertz) -> u8
+    ensures { λ r. ⌜ r ≡ curveRefusal frequency reference ⌝ }
 {
     let f = frequency.0;
-    if f < FIRST {
+    let around = reference.0;
+    let read = whole::within(f, limits::LEAST_FREQUENCY, limits::MOST_FREQUENCY);
+    let reading = whole::unless(read, refusals::BAD_READING, 0);
+    let moved = whole::within(around, limits::LEAST_REFERENCE, limits::MOST_REFERENCE);
+    whole::unless(moved, refusals::BAD_REFERENCE, reading)
+}
+
+// The place among the table's pairs that is read so many millihertz past the first corner: the nearer end outside.
+pub fn place(steps: i64) -> usize
+    ensures { λ r. ⌜ r ≡ placeOf steps ⌝ }
+{
+    if steps < 0 {
         return 0;
     }
-    if LAST < f {
+    if SPAN < steps {
         return LAST_PLACE;
     }
-    (f - FIRST) as usize
+    steps as usize
 }
 
 // The table: the upper and the lower bound of each millihertz from FIRST to LAST, one pair after the other. A run of
@@ -67,11 +77,17 @@ pub fn pairs() -> [i8; ENTRIES]
     table::PAIRS
 }
 
-fn bounds_at(frequency: Millihertz) -> Bounds
-    ensures { λ r. ⌜ r ≡ boundsAt (frequency .0) ⌝ }
+// The pair of a frequency and a reference that are not refused.
+fn bounds_at(frequency: Millihertz, reference: Millihertz) -> Bounds
+    requires { ⌜ CurveFits frequency reference ⌝ }
+    ensures { λ r. ⌜ r ≡ boundsAt (movedBack (reference .0) (frequency .0)) ⌝ }
 {
     let pairs = pairs();
-    let k = 2 * place(frequency);
+    let f = frequency.0;
+    let around = reference.0;
+    let first = around - REACH;
+    let past = f - first;
+    let k = 2 * place(past);
     let upper = pairs[k] as i64;
     let lower = pairs[k + 1] as i64;
     Bounds {

@@ -26,7 +26,7 @@ use Rattle.units.specs.declared.Dollars.{Dollars}
 use Rattle.fees.specs.Fees.{chargeOf, noCharge, chargeBy, fee, chargeRefusal, feeAnswer, qualityPart, qualityRefusal, qualityAnswer, signedPrice, quarterPowers, quarterPart, energyParts, partsOfDollar, energyFee, mostEnergyFee, mostQuality, mostHourAmount, energyRefusal, energyAnswer, energyExact}
 use Rattle.fees.specs.declared.Exact.{Exact}
 use Rattle.fees.specs.Accepted.{FeeFits, QualityFits, EnergyFits}
-use Rattle.whole.proofs.Bounds.{to-within, from-zero, product-between, nearest-between}
+use Rattle.whole.proofs.Bounds.{to-within, in-range, product-between, nearest-between}
 
 -- a fact of a granted amount and of 0 is one of the answer
 charge-has : (P : ℤ → Type 0) (k : ℕ) (amount : ℤ) → (k ≡ 0 → P amount) → P (pos 0) → P (chargeBy k amount .dollars .0)
@@ -89,7 +89,7 @@ quality-passes f = rw (f .first, f .second, f .tenths)
 pub fees-fit : (clearing performance : ℤ) (capacity : Kilowatts) (factor : ℤ) → isFactor factor ≡ true
     → QualityFits (feeAnswer clearing capacity .dollars) (feeAnswer performance capacity .dollars) factor
 fees-fit clearing performance capacity factor e =
-    record { first = from-zero mostFee _ (fee-between clearing capacity); second = from-zero mostFee _ (fee-between performance capacity); tenths = e }
+    record { first = in-range (fee-between clearing capacity); second = in-range (fee-between performance capacity); tenths = e }
 
 -- both fees at most 2 x 10^7, and by the factor 4.8 x 10^9
 pub fees-within : {capacity performance : Dollars} {factor : ℤ} → QualityFits capacity performance factor → Within (2 * mostFee) (capacity .0 +ℤ performance .0)

@@ -2,6 +2,7 @@
 use crate::text;
 use units::Megawatts;
 use units::Millihertz;
+use units::limits;
 
 pub(crate) fn step_test() {
     text::heading(b"document 002, table 1: the step test");
@@ -28,6 +29,14 @@ pub(crate) fn limits() {
     show(b"zero", 0);
     show(b"i64", i64::MIN);
     show(b"i64", i64::MAX);
+}
+
+// The table's corners, moved with the reference; and references at and past the limits.
+pub(crate) fn moved() {
+    text::heading(b"document 02, #107: the curve by a moved reference");
+    corners_up();
+    corners_down();
+    references();
 }
 
 pub(crate) fn conversion() {
@@ -58,13 +67,55 @@ fn first_steps() {
 
 // A frequency, then refusal, upper and lower percent.
 fn show(label: &[u8], frequency: i64) {
-    let b = curve::curve(Millihertz(frequency));
+    let b = curve::curve(Millihertz(frequency), Millihertz(limits::NOMINAL));
     io::write_all(1, label);
     text::number(frequency);
     text::number(b.refusal as i64);
     text::number(b.upper);
     text::number(b.lower);
     text::end();
+}
+
+// The six corners, moved by 300.
+fn corners_up() {
+    around(b"59.75 and 0.3", 60_050, 60_300);
+    around(b"59.86 and 0.3", 60_160, 60_300);
+    around(b"59.98 and 0.3", 60_280, 60_300);
+    around(b"60.02 and 0.3", 60_320, 60_300);
+    around(b"60.14 and 0.3", 60_440, 60_300);
+    around(b"60.25 and 0.3", 60_550, 60_300);
+}
+
+// A frequency and a reference, then refusal, upper and lower percent.
+fn around(label: &[u8], frequency: i64, reference: i64) {
+    let b = curve::curve(Millihertz(frequency), Millihertz(reference));
+    io::write_all(1, label);
+    text::number(frequency);
+    text::number(reference);
+    text::number(b.refusal as i64);
+    text::number(b.upper);
+    text::number(b.lower);
+    text::end();
+}
+
+// And by -500.
+fn corners_down() {
+    around(b"59.75 less 0.5", 59_250, 59_500);
+    around(b"59.86 less 0.5", 59_360, 59_500);
+    around(b"59.98 less 0.5", 59_480, 59_500);
+    around(b"60.02 less 0.5", 59_520, 59_500);
+    around(b"60.14 less 0.5", 59_640, 59_500);
+    around(b"60.25 less 0.5", 59_750, 59_500);
+}
+
+fn references() {
+    around(b"most", 60_400, 60_500);
+    around(b"least", 59_400, 59_500);
+    around(b"below", 59_400, 59_499);
+    around(b"above", 60_400, 60_501);
+    around(b"above, and the frequency", 54_999, 60_501);
+    around(b"the frequency", 54_999, 60_500);
+    around(b"i64", i64::MIN, i64::MAX);
 }
 
 // And from F10 on.

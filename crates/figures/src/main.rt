@@ -13,6 +13,7 @@ fn main() {
     curve_cases::step_test();
     curve_cases::corners();
     curve_cases::limits();
+    curve_cases::moved();
     curve_cases::conversion();
     ledger_cases::a_month();
     ledger_cases::limits();
@@ -24,6 +25,7 @@ fn main() {
     ramp_cases::refused();
     score_cases::seconds();
     score_cases::limits();
+    score_cases::moved();
     score_cases::rates();
     score_cases::earlier_rates();
     reached_cases::reached();

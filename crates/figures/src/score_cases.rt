@@ -43,6 +43,18 @@ pub(crate) fn limits() {
     show(0, 0, 1, i64::MAX);
 }
 
+// Example 2, moved by 300 and by -500; and references at and past the limits.
+pub(crate) fn moved() {
+    text::heading(b"document 02, #107: example 2 by a moved reference");
+    around(4_300, 0, 10_000, 60_200, 60_300);
+    around(3_500, 0, 10_000, 60_200, 60_300);
+    around(4_300, 0, 10_000, 59_400, 59_500);
+    around(3_500, 0, 10_000, 59_400, 59_500);
+    around(4_300, 0, 10_000, 59_900, 60_300);
+    around(4_300, 0, 10_000, 60_400, 60_500);
+    refused_references();
+}
+
 pub(crate) fn rates() {
     text::heading(b"document 001, table 2: rolling rates and the hourly rate");
     table_2();
@@ -71,6 +83,7 @@ fn show(power: i64, transfer: i64, capacity: i64, frequency: i64) {
         Kilowatts(transfer),
         Kilowatts(capacity),
         Millihertz(frequency),
+        Millihertz(limits::NOMINAL),
     );
     io::write_all(1, b"second");
     text::number(power);
@@ -80,6 +93,38 @@ fn show(power: i64, transfer: i64, capacity: i64, frequency: i64) {
     text::byte(s.refusal);
     text::byte(s.score);
     text::end();
+}
+
+// Power, transfer, capacity, frequency and reference, then refusal and score.
+fn around(power: i64, transfer: i64, capacity: i64, frequency: i64, reference: i64) {
+    let s = score::second_score(
+        Kilowatts(power),
+        Kilowatts(transfer),
+        Kilowatts(capacity),
+        Millihertz(frequency),
+        Millihertz(reference),
+    );
+    io::write_all(1, b"around");
+    text::number(power);
+    text::number(transfer);
+    text::number(capacity);
+    text::number(frequency);
+    text::number(reference);
+    text::byte(s.refusal);
+    text::byte(s.score);
+    text::end();
+}
+
+// 2, 19, 10, 4.
+fn refused_references() {
+    around(4_300, 0, 10_000, 59_900, 59_499);
+    around(4_300, 0, 10_000, 59_900, 60_501);
+    around(4_300, 0, 0, 59_900, 60_501);
+    around(4_300, 100_001, 10_000, 59_900, 60_501);
+    around(200_001, 0, 10_000, 59_900, 60_501);
+    around(4_300, 100_001, 10_000, 59_900, 60_500);
+    around(0, 0, 1, 60_000, i64::MIN);
+    around(0, 0, 1, 60_000, i64::MAX);
 }
 
 fn table_2() {

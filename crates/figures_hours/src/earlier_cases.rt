@@ -91,6 +91,7 @@ fn still(label: &[u8], powers: &[i64], earlier: &[u8], scores: &mut [u8]) {
         powers,
         &frequencies,
         hour_cases::terms(),
+        limits::NOMINAL,
         earlier,
         scores,
     );
@@ -116,5 +117,5 @@ fn joins(powers: &[i64]) {
 // On day 3.
 fn join(label: &[u8], powers: &[i64], earlier: &[u8], m: Month, hour: u8) -> Month {
     let frequencies = [60_000i64; limits::SECONDS];
-    joint_cases::join_after(label, powers, &frequencies, 0, earlier, m, 3, hour)
+    joint_cases::join_after(label, powers, &frequencies, 60_000, 0, earlier, m, 3, hour)
 }

@@ -6,6 +6,7 @@ use hour::Settlement;
 use hour::Shift;
 use hour::Terms;
 use units::Kilowatts;
+use units::Millihertz;
 use units::limits;
 
 // 10 MW at 430 and 350 dollars.
@@ -90,7 +91,15 @@ pub(crate) fn dreg_after(
     earlier: &[u8],
 ) {
     let mut scores = [7u8; limits::SECONDS];
-    dreg_work(label, powers, frequencies, terms, earlier, &mut scores);
+    dreg_work(
+        label,
+        powers,
+        frequencies,
+        terms,
+        limits::NOMINAL,
+        earlier,
+        &mut scores,
+    );
 }
 
 // An hour on list S: its settlement, then a check sum of the run that it leaves.
@@ -99,6 +108,7 @@ pub(crate) fn dreg_work(
     powers: &[i64],
     frequencies: &[i64],
     terms: Terms,
+    reference: i64,
     earlier: &[u8],
     scores: &mut [u8],
 ) {
@@ -108,6 +118,7 @@ pub(crate) fn dreg_work(
         powers,
         frequencies,
         terms,
+        Millihertz(reference),
         &thresholds,
         &factors,
         earlier,
@@ -208,6 +219,7 @@ pub(crate) fn shift_after(
         powers,
         frequencies,
         terms,
+        limits::NOMINAL,
         shift,
         earlier,
         &mut scores,
@@ -215,11 +227,12 @@ pub(crate) fn shift_after(
 }
 
 // The same for E-dReg.
-fn work(
+pub(crate) fn work(
     label: &[u8],
     powers: &[i64],
     frequencies: &[i64],
     terms: Terms,
+    reference: i64,
     shift: Shift,
     earlier: &[u8],
     scores: &mut [u8],
@@ -230,6 +243,7 @@ fn work(
         powers,
         frequencies,
         terms,
+        Millihertz(reference),
         shift,
         &thresholds,
         &factors,
@@ -245,7 +259,7 @@ fn waver(label: &[u8], followed: [i64; 5], planned: [i64; 5]) {
     let mut powers = [0i64; limits::SECONDS];
     let mut frequencies = [0i64; limits::SECONDS];
     readings::follow(&mut powers, &followed);
-    readings::fill(&mut frequencies, 0, limits::SECONDS, Rule::Waver);
+    readings::fill(&mut frequencies, 0, limits::SECONDS, Rule::Waver(59_700));
     shift(label, &powers, &frequencies, terms(), shift_of(planned));
 }
 

@@ -3,6 +3,7 @@ use crate::hour_cases;
 use crate::readings;
 use crate::text;
 use month::Month;
+use units::Millihertz;
 use units::limits;
 
 pub(crate) fn joint() {
@@ -51,7 +52,18 @@ fn join(
     hour: u8,
 ) -> Month {
     let none = [0u8; 0];
-    join_after(label, powers, frequencies, target, &none, m, day, hour)
+    let reference = limits::NOMINAL;
+    join_after(
+        label,
+        powers,
+        frequencies,
+        reference,
+        target,
+        &none,
+        m,
+        day,
+        hour,
+    )
 }
 
 // The settlement, then the ledger after it.
@@ -59,6 +71,7 @@ pub(crate) fn join_after(
     label: &[u8],
     powers: &[i64],
     frequencies: &[i64],
+    reference: i64,
     target: i64,
     earlier: &[u8],
     m: Month,
@@ -72,6 +85,7 @@ pub(crate) fn join_after(
         powers,
         frequencies,
         hour_cases::terms(),
+        Millihertz(reference),
         shift,
         &thresholds,
         &factors,

@@ -6,6 +6,7 @@ mod fees_cases;
 mod hour_cases;
 mod joint_cases;
 mod month_cases;
+mod moved_cases;
 mod readings;
 mod refused_cases;
 mod sreg_cases;
@@ -29,6 +30,9 @@ fn main() {
     earlier_cases::refused();
     earlier_cases::in_a_row();
     earlier_cases::joint();
+    moved_cases::hours();
+    moved_cases::refused();
+    moved_cases::joint();
     sreg_cases::table_2();
     sreg_cases::ends();
     sreg_cases::in_a_row();

@@ -6,8 +6,8 @@ pub(crate) enum Rule {
     Level(i64),
     // at even places and at odd ones
     Turns(i64, i64),
-    // frequencies over the whole curve, from 59,700 to 60,300
-    Waver,
+    // frequencies over 601 millihertz, from this one on: over the whole curve from 300 below its reference on
+    Waver(u32),
     // consumption in document 001's table 2
     Table2,
 }
@@ -59,7 +59,7 @@ fn value_at(rule: Rule, i: usize) -> i64 {
     match rule {
         Rule::Level(value) => value,
         Rule::Turns(even, odd) => if i % 2 == 0 { even } else { odd },
-        Rule::Waver => (59_700 + i % 3_600 * 37 % 601) as i64,
+        Rule::Waver(first) => (first as usize + i % 3_600 * 37 % 601) as i64,
         Rule::Table2 => consumed(i),
     }
 }

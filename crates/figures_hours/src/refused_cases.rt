@@ -5,6 +5,7 @@ use crate::text;
 use hour::Shift;
 use hour::Terms;
 use units::Kilowatts;
+use units::Millihertz;
 use units::limits;
 
 pub(crate) fn hours() {
@@ -98,6 +99,7 @@ fn worked(
         powers,
         frequencies,
         terms,
+        Millihertz(limits::NOMINAL),
         shift,
         &thresholds,
         &factors,

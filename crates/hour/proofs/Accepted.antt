@@ -20,7 +20,7 @@ use Rattle.whole.specs.Whole.{minus}
 use Rattle.whole.proofs.Choice.{and-both}
 use Rattle.whole.proofs.Sums.{all-inside, inside-all}
 use Rattle.units.specs.Limits.{isPrice, isFactor, arePowers, areFrequencies, areTransfers, mostTransfer, mostScore, secondsOfHour}
-use Rattle.curve.specs.Curve.{upperAt, lowerAt}
+use Rattle.curve.specs.Curve.{upperBy, lowerBy}
 use Rattle.score.specs.Score.{percentOutput, scoreOf}
 use Rattle.score.proofs.Laws.{score-most}
 use Rattle.score.proofs.Accepted.{scores-plain}
@@ -102,17 +102,18 @@ module _ (h : WholeHour) (places : ℕ) (f : HourFits h places) (five : Five (h 
 
   -- ---- the scores
 
-  scores-are : Scores (h .powers) (h .frequencies) (transfersOf (h .service)) (h .terms .capacity) (scoresOf h)
+  scores-are : Scores (h .powers) (h .frequencies) (transfersOf (h .service)) (h .terms .capacity) (h .reference) (scoresOf h)
   unfolding scoresOf
   scores-are =
       let l = lengths in
       let p = sym (l .of-powers) in
-      scores-plain (h .powers) (h .frequencies) (transfersOf (h .service)) (h .terms .capacity) places
+      scores-plain (h .powers) (h .frequencies) (transfersOf (h .service)) (h .terms .capacity) (h .reference) places
       (record {
         as-frequencies = l .of-frequencies ∙ p;
         as-transfers = length-transfers (h .service) ∙ p;
         as-places = l .of-places ∙ p;
         capacity-fits = f .capacity;
+        reference-fits = f .reference;
         transfers-fit = transfers-fit (h .service) (f .targets);
         powers-fit = readings .0;
         frequencies-fit = readings .1;
@@ -123,11 +124,11 @@ module _ (h : WholeHour) (places : ℕ) (f : HourFits h places) (five : Five (h 
 
   score-plain : (i : ℕ) → i < secondsOfHour →
       let frequency = getD (h .frequencies) i (pos 0) in
-      getD (scoresOf h) i 0 ≡ scoreOf (percentOutput (getD (h .powers) i (pos 0)) (transferIn (h .service) i) (h .terms .capacity .0)) (upperAt frequency) (lowerAt frequency)
+      getD (scoresOf h) i 0 ≡ scoreOf (percentOutput (getD (h .powers) i (pos 0)) (transferIn (h .service) i) (h .terms .capacity .0)) (upperBy (h .reference .0) frequency) (lowerBy (h .reference .0) frequency)
   score-plain i l =
       let frequency = getD (h .frequencies) i (pos 0) in
       scores-are .second i (omega (arith, lengths .of-powers))
-      ∙ ap (λ (z : ℤ). scoreOf (percentOutput (getD (h .powers) i (pos 0)) z (h .terms .capacity .0)) (upperAt frequency) (lowerAt frequency)) (transfer-at (h .service) i l)
+      ∙ ap (λ (z : ℤ). scoreOf (percentOutput (getD (h .powers) i (pos 0)) z (h .terms .capacity .0)) (upperBy (h .reference .0) frequency) (lowerBy (h .reference .0) frequency)) (transfer-at (h .service) i l)
 
   -- ---- the rate and the factor
 
@@ -195,7 +196,7 @@ five-targets t vs g = length-unmapped ℤ (t .targets) 5 (owed shift.the-type sh
 -- an E-dReg hour: a call of `hour`, on parameters of their types
 module _ (κs : Lfts 6) (a : Dens κs hour-kinds.ps) (good : GoodsP κs hour-kinds.ps a) (r : Settlement) (s : AtExit (endedOf 6 hour-kinds.ps hour-kinds.r) κs) (met : hour-reads.Post κs a r s) where
   five : Five (hourHanded κs a .service)
-  five = five-targets (a .1 .1 .1 .0) _ (good .1 .1 .1 .0)
+  five = five-targets (a .1 .1 .1 .1 .0) _ (good .1 .1 .1 .1 .0)
 
   pub hour-accepted : r .refusal ≡ 0 → Accepted (hourHanded κs a) (hourRun κs s) r
   hour-accepted = accepts (hourHanded κs a) (hourRun κs a) (hourRun κs s) r five (met .0) (met .1)

@@ -56,7 +56,7 @@ alone-none : (h : WholeHour) (places : ℕ) → HourFits h places → hourAloneR
 alone-none h places f =
     let lengths = and-both (secondsFit (length (h .powers)) (length (h .frequencies)) places) (earlierFit (length (h .earlier))) (f .lengths) .0 in
     let readings = and-both (areScores (h .earlier)) (readingsFit (h .powers) (h .frequencies)) (f .readings) .1 in
-    passed-all (hourAloneTests h places) (lengths, (f .capacity, (f .prices, (f .bands, (f .targets, (readings, tt))))))
+    passed-all (hourAloneTests h places) (lengths, (f .capacity, (f .reference, (f .prices, (f .bands, (f .targets, (readings, tt)))))))
 
 -- and rated no higher
 pub hour-raised : (h : WholeHour) (places : ℕ) → Five (h .service) → hourRefusal h places ≡ 0
@@ -111,7 +111,7 @@ module _ (κs : Lfts 6) (a : Dens κs hour-kinds.ps) (r : Settlement) (s : AtExi
   hour-as-before none = (met .0 ∙ hour-alone (hourHanded κs a) none (length (hourRun κs a)), met .1 ∙ left-alone (hourHanded κs a) none (hourRun κs a))
 
   pub hour-rate-raised : GoodsP κs hour-kinds.ps a → r .refusal ≡ 0 → let alone = hourAlone (hourHanded κs a) (length (hourRun κs a)) in (alone .refusal ≡ 0) × (alone .rate ≤ r .rate)
-  hour-rate-raised good = answer-raised (hourHanded κs a) (length (hourRun κs a)) r (five-targets (a .1 .1 .1 .0) _ (good .1 .1 .1 .0)) (met .0)
+  hour-rate-raised good = answer-raised (hourHanded κs a) (length (hourRun κs a)) r (five-targets (a .1 .1 .1 .1 .0) _ (good .1 .1 .1 .1 .0)) (met .0)
 
   -- and the one after it, handed the last three scores that the first left
   module _ (good : GoodsP κs hour-kinds.ps a) (ηs : Lfts 6) (b : Dens ηs hour-kinds.ps) (also : GoodsP ηs hour-kinds.ps b) (x : Settlement) (t : AtExit (endedOf 6 hour-kinds.ps hour-kinds.r) ηs)

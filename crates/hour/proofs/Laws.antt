@@ -18,7 +18,7 @@ use Rattle.whole.proofs.Runs.{length-listed}
 use Rattle.whole.proofs.Signed.{within-fits}
 use Rattle.whole.proofs.Sums.{within-in, inside-all}
 use Rattle.units.specs.Refusals.{badReading}
-use Rattle.units.specs.Limits.{isCapacity, isPrice, mostScore, areTransfers, mostTransfer, mostAmount, isAmount, secondsOfHour}
+use Rattle.units.specs.Limits.{isCapacity, isReference, isPrice, mostScore, areTransfers, mostTransfer, mostAmount, isAmount, secondsOfHour}
 use Rattle.units.specs.declared.Dollars.{Dollars}
 use Rattle.ramp.proofs.Laws.{plan-at, length-plan, plan-inside}
 use Rattle.bands.specs.Bands.{bandsFit, bandsRefusal}
@@ -62,18 +62,19 @@ pub fit : (h : WholeHour) (places : ℕ) → hourRefusal h places ≡ 0 → Hour
 unfolding hourRefusal
 fit h places e =
     let p = all-passed (testsOf h places ++ readingsTests h) refl e in
-    record { lengths = p .0; capacity = p .1 .0; prices = p .1 .1 .0; bands = p .1 .1 .1 .0; targets = p .1 .1 .1 .1 .0; readings = p .1 .1 .1 .1 .1 .0 }
+    record { lengths = p .0; capacity = p .1 .0; reference = p .1 .1 .0; prices = p .1 .1 .1 .0; bands = p .1 .1 .1 .1 .0; targets = p .1 .1 .1 .1 .1 .0; readings = p .1 .1 .1 .1 .1 .1 .0 }
 
 -- and an hour that fits is not refused
 pub fit-none : (h : WholeHour) (places : ℕ) → HourFits h places → hourRefusal h places ≡ 0
 unfolding hourRefusal
 fit-none h places f =
-    passed-all (testsOf h places ++ readingsTests h) (f .lengths, (f .capacity, (f .prices, (f .bands, (f .targets, (f .readings, tt))))))
+    passed-all (testsOf h places ++ readingsTests h) (f .lengths, (f .capacity, (f .reference, (f .prices, (f .bands, (f .targets, (f .readings, tt)))))))
 
 -- the refusal of the terms, and that of the readings and the earlier scores, which comes last
 abbrev pub ofTerms : WholeHour → ℕ → ℕ
 ofTerms h places =
-    termsRefusal (length (h .powers)) (length (h .frequencies)) (length (h .earlier)) places (h .terms) (h .thresholds) (h .factors) (energyPricesFit (h .service)) (targetsFit (h .service))
+    termsRefusal (length (h .powers)) (length (h .frequencies)) (length (h .earlier)) places (h .terms) (isReference (h .reference .0)) (h .thresholds) (h .factors)
+    (energyPricesFit (h .service)) (targetsFit (h .service))
 
 abbrev pub ofReadings : WholeHour → ℕ
 ofReadings h = inOrder (readingsTests h)
@@ -86,13 +87,14 @@ readings-last h places = in-order-then (testsOf h places) (readingsTests h) refl
 pub record TermsFit (h : WholeHour) (places : ℕ) : Type 0 where
   pub lengths : lengthsFit (length (h .powers)) (length (h .frequencies)) (length (h .earlier)) places ≡ true
   pub capacity : isCapacity (h .terms .capacity .0) ≡ true
+  pub reference : isReference (h .reference .0) ≡ true
   pub targets : targetsFit (h .service) ≡ true
 
 pub terms-fit : (h : WholeHour) (places : ℕ) → ofTerms h places ≡ 0 → TermsFit h places
 unfolding termsRefusal
 terms-fit h places e =
     let p = all-passed (testsOf h places) refl e in
-    record { lengths = p .0; capacity = p .1 .0; targets = p .1 .1 .1 .1 .0 }
+    record { lengths = p .0; capacity = p .1 .0; reference = p .1 .1 .0; targets = p .1 .1 .1 .1 .1 .0 }
 
 -- ---- the transfers
 
@@ -117,7 +119,7 @@ transfers-fit (eDReg shift) e = plan-inside (shift .targets) e
 -- ---- the core, where the terms are let through
 
 module _ (h : WholeHour) (places : ℕ) (f : TermsFit h places) where
-  run-refusal-is : runRefusal (h .powers) (h .frequencies) (transfersOf (h .service)) (h .terms .capacity) places ≡ unless (readingsFit (h .powers) (h .frequencies)) badReading 0
+  run-refusal-is : runRefusal (h .powers) (h .frequencies) (transfersOf (h .service)) (h .terms .capacity) (h .reference) places ≡ unless (readingsFit (h .powers) (h .frequencies)) badReading 0
   unfolding runRefusal
   run-refusal-is =
       let l = long-of h places (f .lengths) in
@@ -127,10 +129,11 @@ module _ (h : WholeHour) (places : ℕ) (f : TermsFit h places) where
         eq-eqb _ _ (length-transfers (h .service) ∙ p),
         eq-eqb _ _ (l .of-places ∙ p),
         f .capacity,
+        f .reference,
         transfers-fit (h .service) (f .targets),
       )
 
-  worked-refusal-is : workedRefusal (h .powers) (h .frequencies) (transfersOf (h .service)) (h .terms .capacity) (h .earlier) places ≡ ofReadings h
+  worked-refusal-is : workedRefusal (h .powers) (h .frequencies) (transfersOf (h .service)) (h .terms .capacity) (h .reference) (h .earlier) places ≡ ofReadings h
   unfolding workedRefusal
   worked-refusal-is =
       by-test (areScores (h .earlier)) (λ (t : areScores (h .earlier) ≡ true). rw (t, run-refusal-is)) (λ (t : areScores (h .earlier) ≡ false). rw t)
@@ -139,15 +142,15 @@ module _ (h : WholeHour) (places : ℕ) (none : ofTerms h places ≡ 0) where
   readings-left : hourRefusal h places ≡ ofReadings h
   readings-left = readings-last h places ∙ or-rest (ofReadings h) none
 
-  worked-refusal-left : workedRefusal (h .powers) (h .frequencies) (transfersOf (h .service)) (h .terms .capacity) (h .earlier) places ≡ hourRefusal h places
+  worked-refusal-left : workedRefusal (h .powers) (h .frequencies) (transfersOf (h .service)) (h .terms .capacity) (h .reference) (h .earlier) places ≡ hourRefusal h places
   worked-refusal-left = worked-refusal-is h places (terms-fit h places none) ∙ sym readings-left
 
-  pub worked-is : workedOf (h .powers) (h .frequencies) (transfersOf (h .service)) (h .terms) (h .thresholds) (h .factors) (h .earlier) (energyOf (h .powers) (h .service)) places ≡ hourAnswer h places
+  pub worked-is : workedOf (h .powers) (h .frequencies) (transfersOf (h .service)) (h .terms) (h .reference) (h .thresholds) (h .factors) (h .earlier) (energyOf (h .powers) (h .service)) places ≡ hourAnswer h places
   unfolding workedOf hourAnswer scoresOf
   worked-is = rw worked-refusal-left
 
 pub left-is : (h : WholeHour) (run : List ℕ) → ofTerms h (length run) ≡ 0
-    → workedLeft (h .powers) (h .frequencies) (transfersOf (h .service)) (h .terms .capacity) (h .earlier) run ≡ scoresLeft h run
+    → workedLeft (h .powers) (h .frequencies) (transfersOf (h .service)) (h .terms .capacity) (h .reference) (h .earlier) run ≡ scoresLeft h run
 unfolding workedLeft scoresLeft scoresOf
 left-is h run none = rw (worked-refusal-left h (length run) none)
 
@@ -198,7 +201,7 @@ terms-refused h run e n answer =
 
 -- its refusals are those of the terms, its runs being as long as they are to be, and then the rate's
 pub at-last : (terms : Terms) (thresholds factors : List ℤ) (rate n : ℕ) → n ≡ secondsOfHour
-    → orElse (termsRefusal n n 0 n terms thresholds factors true true) (unless (leb rate mostScore) badReading 0) ≡ atRefusal terms thresholds factors rate
+    → orElse (termsRefusal n n 0 n terms true thresholds factors true true) (unless (leb rate mostScore) badReading 0) ≡ atRefusal terms thresholds factors rate
 unfolding termsRefusal atRefusal
 at-last terms ts fs rate n e =
     let capacity = isCapacity (terms .capacity .0) in

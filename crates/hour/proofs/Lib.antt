@@ -3,5 +3,6 @@ pub mod Laws
 pub mod Accepted
 pub mod Without
 pub mod Earlier
+pub mod Moved
 mod Determined
 mod RefusedKeeps

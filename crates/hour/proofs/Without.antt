@@ -10,6 +10,7 @@ use Rattle.whole.specs.Folds.{foldTo}
 use Rattle.whole.specs.Runs.{listed}
 use Rattle.whole.specs.Whole.{inRange, allInRange}
 use Rattle.units.specs.Limits.{secondsOfHour}
+use Rattle.units.specs.declared.Millihertz.{Millihertz}
 use Rattle.ramp.specs.Ramp.{transferAt, planOf}
 use Rattle.ramp.proofs.Laws.{plan-is, transfer-none}
 use Rattle.fees.proofs.Laws.{free-energy}
@@ -41,19 +42,19 @@ no-targets : targetsFit (eDReg noShift) ≡ true
 unfolding allInRange inRange foldTo
 no-targets = refl
 
-module _ (powers frequencies : List ℤ) (terms : Terms) (thresholds factors : List ℤ) (earlier : List ℕ) where
-  same-refusal : (places : ℕ) → hourRefusal (eDRegHour powers frequencies terms noShift thresholds factors earlier) places ≡ hourRefusal (dRegHour powers frequencies terms thresholds factors earlier) places
+module _ (powers frequencies : List ℤ) (terms : Terms) (reference : Millihertz) (thresholds factors : List ℤ) (earlier : List ℕ) where
+  same-refusal : (places : ℕ) → hourRefusal (eDRegHour powers frequencies terms reference noShift thresholds factors earlier) places ≡ hourRefusal (dRegHour powers frequencies terms reference thresholds factors earlier) places
   unfolding hourRefusal
   same-refusal places = rw (no-prices, no-targets)
 
-  same-scores : scoresOf (eDRegHour powers frequencies terms noShift thresholds factors earlier) ≡ scoresOf (dRegHour powers frequencies terms thresholds factors earlier)
+  same-scores : scoresOf (eDRegHour powers frequencies terms reference noShift thresholds factors earlier) ≡ scoresOf (dRegHour powers frequencies terms reference thresholds factors earlier)
   unfolding scoresOf
   same-scores = rw no-transfers
 
-  pub dreg-without : (places : ℕ) → hourAnswer (dRegHour powers frequencies terms thresholds factors earlier) places ≡ hourAnswer (eDRegHour powers frequencies terms noShift thresholds factors earlier) places
+  pub dreg-without : (places : ℕ) → hourAnswer (dRegHour powers frequencies terms reference thresholds factors earlier) places ≡ hourAnswer (eDRegHour powers frequencies terms reference noShift thresholds factors earlier) places
   unfolding hourAnswer
   dreg-without places = sym (rw (same-refusal places, rateOf, same-scores, free-energy powers (quarters noShift)))
 
-  pub dreg-without-left : (run : List ℕ) → scoresLeft (dRegHour powers frequencies terms thresholds factors earlier) run ≡ scoresLeft (eDRegHour powers frequencies terms noShift thresholds factors earlier) run
+  pub dreg-without-left : (run : List ℕ) → scoresLeft (dRegHour powers frequencies terms reference thresholds factors earlier) run ≡ scoresLeft (eDRegHour powers frequencies terms reference noShift thresholds factors earlier) run
   unfolding scoresLeft
   dreg-without-left run = sym (rw (same-refusal (length run), same-scores))

@@ -6,8 +6,8 @@ use mathlib.Core.Bool.{true, _&&_}
 use mathlib.Core.List.{List}
 use lib.IntN.{ℤ, pos, _+ℤ_}
 use lib.ListN.{length, getD}
-use Rattle.units.specs.Limits.{isCapacity, isPrice, secondsOfHour}
-use Rattle.curve.specs.Curve.{upperAt, lowerAt}
+use Rattle.units.specs.Limits.{isCapacity, isReference, isPrice, secondsOfHour}
+use Rattle.curve.specs.Curve.{upperBy, lowerBy}
 use Rattle.ramp.specs.Ramp.{transferAt}
 use Rattle.score.specs.Score.{percentOutput, scoreOf}
 use Rattle.rate.specs.Rolling.{areScores, rolling, smallest}
@@ -28,10 +28,10 @@ energyIn powers (eDReg shift) = energyFee powers (quarters shift) (shift .discha
 pub record Accepted (h : WholeHour) (scores : List ℕ) (r : Settlement) : Type 0 where
   -- an hour has 3,600 scores
   pub seconds : length scores ≡ secondsOfHour
-  -- each is the score of the percent output of its second, less its transfer, by the bounds of the frequency of the second before
+  -- each is the score of the percent output of its second, less its transfer, by the bounds of the frequency of the second before, the curve's corners around the reference
   pub score : (i : ℕ) → i < secondsOfHour →
       let frequency = getD (h .frequencies) i (pos 0) in
-      getD scores i 0 ≡ scoreOf (percentOutput (getD (h .powers) i (pos 0)) (transferIn (h .service) i) (h .terms .capacity .0)) (upperAt frequency) (lowerAt frequency)
+      getD scores i 0 ≡ scoreOf (percentOutput (getD (h .powers) i (pos 0)) (transferIn (h .service) i) (h .terms .capacity .0)) (upperBy (h .reference .0) frequency) (lowerBy (h .reference .0) frequency)
   -- the hourly rate is the smallest rolling rate, whose first windows look back into the earlier scores (document 02, #102)
   pub rate : r .rate ≡ smallest (rolling (h .earlier) scores)
   -- the factor is that of the first record whose threshold is at most the rate
@@ -50,6 +50,7 @@ pub record Accepted (h : WholeHour) (scores : List ℕ) (r : Settlement) : Type 
 pub record HourFits (h : WholeHour) (places : ℕ) : Type 0 where
   pub lengths : lengthsFit (length (h .powers)) (length (h .frequencies)) (length (h .earlier)) places ≡ true
   pub capacity : isCapacity (h .terms .capacity .0) ≡ true
+  pub reference : isReference (h .reference .0) ≡ true
   pub prices : (isPrice (h .terms .clearing) && isPrice (h .terms .performance) && energyPricesFit (h .service)) ≡ true
   pub bands : bandsFit (h .thresholds) (h .factors) ≡ true
   pub targets : targetsFit (h .service) ≡ true

@@ -1,4 +1,4 @@
--- What the theorems of #102 (proofs/Earlier.antt) are stated in: the hour by its own seconds alone, as document 01 has it, with no earlier scores to look at and windows that hold only its
+-- What the theorems of #102 (proofs/Earlier.antt) are stated in: the hour by its own seconds alone, as document 01 has it (by a reference since #107), with no earlier scores to look at and windows that hold only its
 -- own seconds; and two hours that are rated as one run of seconds.
 use Prim.Native.Nat.{ℕ}
 use mathlib.Core.Path.{_≡_}
@@ -7,15 +7,17 @@ use mathlib.Core.List.{List, [], _∷_, _++_}
 use lib.ListN.{length, take, drop}
 use Rattle.whole.specs.Choice.{inOrder, kept}
 use Rattle.units.specs.Refusals.{badReading}
+use Rattle.units.specs.Limits.{isReference}
 use Rattle.rate.specs.Rolling.{rolling, smallest}
 use Rattle.rate.specs.Earlier.{rateAlone}
 use Rattle.hour.specs.Hour.{WholeHour, energyOf, energyPricesFit, targetsFit, secondsFit, readingsFit, termsTests, scoresOf, settledOf, refusedHour}
 use Rattle.hour.specs.declared.Settlement.{Settlement}
 
--- 1, 2, 3, 5, 10, 4
+-- 1, 2, 19, 3, 5, 10, 4
 abbrev pub hourAloneTests : WholeHour → ℕ → List (Bool × ℕ)
 hourAloneTests h places =
-    termsTests (secondsFit (length (h .powers)) (length (h .frequencies)) places) (h .terms) (h .thresholds) (h .factors) (energyPricesFit (h .service)) (targetsFit (h .service))
+    termsTests (secondsFit (length (h .powers)) (length (h .frequencies)) places) (h .terms) (isReference (h .reference .0)) (h .thresholds) (h .factors) (energyPricesFit (h .service))
+    (targetsFit (h .service))
     ++ (readingsFit (h .powers) (h .frequencies), badReading) ∷ []
 
 abbrev pub hourAloneRefusal : WholeHour → ℕ → ℕ

@@ -1,4 +1,4 @@
--- A whole hour (document 01, "A second's score, an hour's rate", "Fees of one hour"; document 02, #102): its refusals in order, its scores, its rate, its fees and its
+-- A whole hour (document 01, "A second's score, an hour's rate", "Fees of one hour"; document 02, #102, #107): its refusals in order, its scores, its rate, its fees and its
 -- amount, made of the parts' own answers. dReg and E-dReg differ in the transfers and the energy service fee alone.
 use Prim.Native.Nat.{ℕ}
 use mathlib.Core.Bool.{Bool, true, _&&_}
@@ -7,10 +7,11 @@ use lib.Dec.{eqb, leb}
 use lib.IntN.{ℤ, pos, _+ℤ_}
 use lib.ListN.{length, take, drop, replicate}
 use Rattle.whole.specs.Choice.{inOrder, kept}
-use Rattle.units.specs.Refusals.{wrongLength, badCapacity, badMoney, badBands, badTransfer, badReading}
-use Rattle.units.specs.Limits.{isCapacity, isPrice, arePowers, areFrequencies, areTransfers, mostScore, secondsOfHour}
+use Rattle.units.specs.Refusals.{wrongLength, badCapacity, badReference, badMoney, badBands, badTransfer, badReading}
+use Rattle.units.specs.Limits.{isCapacity, isReference, isPrice, arePowers, areFrequencies, areTransfers, mostScore, secondsOfHour}
 use Rattle.units.specs.Units.{dollars}
 use Rattle.units.specs.declared.Dollars.{Dollars}
+use Rattle.units.specs.declared.Millihertz.{Millihertz}
 use Rattle.ramp.specs.Ramp.{planOf}
 use Rattle.bands.specs.Bands.{bandsFit, factorAnswer}
 use Rattle.score.specs.Run.{runScores}
@@ -32,19 +33,21 @@ pub record WholeHour : Type 0 where
   pub powers : List ℤ
   pub frequencies : List ℤ
   pub terms : Terms
+  -- the curve's, "moved by the dispatcher" (document 02, #107)
+  pub reference : Millihertz
   pub service : Service
   pub thresholds : List ℤ
   pub factors : List ℤ
   -- the last three scores of the hour before, oldest first, or none (document 02, #102)
   pub earlier : List ℕ
 
-abbrev pub dRegHour : List ℤ → List ℤ → Terms → List ℤ → List ℤ → List ℕ → WholeHour
-dRegHour powers frequencies terms thresholds factors earlier =
-    record { powers = powers; frequencies = frequencies; terms = terms; service = dReg; thresholds = thresholds; factors = factors; earlier = earlier }
+abbrev pub dRegHour : List ℤ → List ℤ → Terms → Millihertz → List ℤ → List ℤ → List ℕ → WholeHour
+dRegHour powers frequencies terms reference thresholds factors earlier =
+    record { powers = powers; frequencies = frequencies; terms = terms; reference = reference; service = dReg; thresholds = thresholds; factors = factors; earlier = earlier }
 
-abbrev pub eDRegHour : List ℤ → List ℤ → Terms → Shift → List ℤ → List ℤ → List ℕ → WholeHour
-eDRegHour powers frequencies terms shift thresholds factors earlier =
-    record { powers = powers; frequencies = frequencies; terms = terms; service = eDReg shift; thresholds = thresholds; factors = factors; earlier = earlier }
+abbrev pub eDRegHour : List ℤ → List ℤ → Terms → Millihertz → Shift → List ℤ → List ℤ → List ℕ → WholeHour
+eDRegHour powers frequencies terms reference shift thresholds factors earlier =
+    record { powers = powers; frequencies = frequencies; terms = terms; reference = reference; service = eDReg shift; thresholds = thresholds; factors = factors; earlier = earlier }
 
 -- ---- what the two differ in
 
@@ -70,7 +73,7 @@ abbrev pub targetsFit : Service → Bool
 targetsFit dReg = true
 targetsFit (eDReg shift) = areTransfers (shift .targets)
 
--- ---- the refusals: 1, 2, 3, 5, 10, 4
+-- ---- the refusals: 1, 2, 19, 3, 5, 10, 4
 
 -- an hour is 3,600 powers, 3,600 frequencies and a run of 3,600 scores
 abbrev pub secondsFit : ℕ → ℕ → ℕ → Bool
@@ -83,24 +86,26 @@ lengthsFit powers frequencies earlier places = secondsFit powers frequencies pla
 abbrev pub readingsFit : List ℤ → List ℤ → Bool
 readingsFit powers frequencies = arePowers powers && areFrequencies frequencies
 
--- all but the readings': 1, 2, 3, 5, 10
-abbrev pub termsTests : Bool → Terms → List ℤ → List ℤ → Bool → Bool → List (Bool × ℕ)
-termsTests lengths terms thresholds factors priced planned =
+-- all but the readings': 1, 2, "19 .. directly after 2" (document 02, #107), 3, 5, 10; an hour that takes no reference, or shifts nothing, passes their tests
+abbrev pub termsTests : Bool → Terms → Bool → List ℤ → List ℤ → Bool → Bool → List (Bool × ℕ)
+termsTests lengths terms referred thresholds factors priced planned =
     (lengths, wrongLength)
     ∷ (isCapacity (terms .capacity .0), badCapacity)
+    ∷ (referred, badReference)
     ∷ (isPrice (terms .clearing) && isPrice (terms .performance) && priced, badMoney)
     ∷ (bandsFit thresholds factors, badBands)
     ∷ (planned, badTransfer)
     ∷ []
 
 -- by the lengths of the runs
-unfoldable pub termsRefusal : ℕ → ℕ → ℕ → ℕ → Terms → List ℤ → List ℤ → Bool → Bool → ℕ
-termsRefusal powers frequencies earlier places terms thresholds factors priced planned =
-    inOrder (termsTests (lengthsFit powers frequencies earlier places) terms thresholds factors priced planned)
+unfoldable pub termsRefusal : ℕ → ℕ → ℕ → ℕ → Terms → Bool → List ℤ → List ℤ → Bool → Bool → ℕ
+termsRefusal powers frequencies earlier places terms referred thresholds factors priced planned =
+    inOrder (termsTests (lengthsFit powers frequencies earlier places) terms referred thresholds factors priced planned)
 
 abbrev pub testsOf : WholeHour → ℕ → List (Bool × ℕ)
 testsOf h places =
-    termsTests (lengthsFit (length (h .powers)) (length (h .frequencies)) (length (h .earlier)) places) (h .terms) (h .thresholds) (h .factors) (energyPricesFit (h .service)) (targetsFit (h .service))
+    termsTests (lengthsFit (length (h .powers)) (length (h .frequencies)) (length (h .earlier)) places) (h .terms) (isReference (h .reference .0)) (h .thresholds) (h .factors)
+    (energyPricesFit (h .service)) (targetsFit (h .service))
 
 -- and then the readings' and the earlier scores': 4
 abbrev pub readingsTests : WholeHour → List (Bool × ℕ)
@@ -113,7 +118,7 @@ hourRefusal h places = inOrder (testsOf h places ++ readingsTests h)
 -- ---- the scores
 
 unfoldable pub scoresOf : WholeHour → List ℕ
-scoresOf h = runScores (h .powers) (h .frequencies) (transfersOf (h .service)) (h .terms .capacity)
+scoresOf h = runScores (h .powers) (h .frequencies) (transfersOf (h .service)) (h .terms .capacity) (h .reference)
 
 -- what an hour leaves in the lent run
 unfoldable pub scoresLeft : WholeHour → List ℕ → List ℕ

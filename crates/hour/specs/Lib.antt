@@ -3,4 +3,5 @@ pub mod Hour
 pub mod Accepted
 pub mod Calls
 pub mod Earlier
+pub mod Moved
 pub mod Inner

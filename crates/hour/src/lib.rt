@@ -6,7 +6,7 @@ ghost use lib.ListN.{length, take, drop};
 ghost use mir.Syntax.{w64};
 ghost use mir.Val.{SFits};
 ghost use Rattle.whole.specs.Whole.{Within};
-ghost use Rattle.units.specs.Limits.{isCapacity, isPrice};
+ghost use Rattle.units.specs.Limits.{isCapacity, isReference, isPrice};
 ghost use Rattle.units.specs.Units.{dollars};
 ghost use Rattle.fees.specs.Fees.{feeAnswer, qualityAnswer, energyAnswer, mostEnergyFee};
 ghost use Rattle.bands.specs.Bands.{factorAnswer};
@@ -16,6 +16,7 @@ ghost use Rattle.hour.specs.Hour.{termsRefusal, eDReg, dRegHour, eDRegHo
 ghost use Rattle.hour.specs.Inner.{workedOf, workedLeft};
 use units::Dollars;
 use units::Kilowatts;
+use units::Millihertz;
 use units::limits;
 use units::refusals;
 
@@ -48,20 +49,21 @@ pub struct Settlement {
     pub amount: Dollars,
 }
 
-// A dReg hour: its settlement, and its scores in the lent run; or its refusal, and the run as it was. It transfers
-// nothing and is paid no energy. The first three rolling rates look back into the earlier scores: the last three of
-// the hour before, oldest first, or none.
+// A dReg hour: its settlement, and its scores in the lent run; or its refusal, and the run as it was. The curve's
+// corners stand around the reference. The hour transfers nothing and is paid no energy. The first three rolling rates
+// look back into the earlier scores: the last three of the hour before, oldest first, or none.
 pub fn dreg_hour(
     powers: &[i64],
     frequencies: &[i64],
     terms: Terms,
+    reference: Millihertz,
     thresholds: &[i64],
     factors: &[i64],
     earlier: &[u8],
     scores: &mut [u8],
 ) -> Settlement
-    ensures answers { λ r. ⌜ r ≡ hourAnswer (dRegHour (now (powers .entry)) (now (frequencies .entry)) terms (now (thresholds .entry)) (now (factors .entry)) (now (earlier .entry))) (length (now (scores .entry))) ⌝ }
-    ensures leaves { λ r. ⌜ now (scores .exit) ≡ scoresLeft (dRegHour (now (powers .entry)) (now (frequencies .entry)) terms (now (thresholds .entry)) (now (factors .entry)) (now (earlier .entry))) (now (scores .entry)) ⌝ }
+    ensures answers { λ r. ⌜ r ≡ hourAnswer (dRegHour (now (powers .entry)) (now (frequencies .entry)) terms reference (now (thresholds .entry)) (now (factors .entry)) (now (earlier .entry))) (length (now (scores .entry))) ⌝ }
+    ensures leaves { λ r. ⌜ now (scores .exit) ≡ scoresLeft (dRegHour (now (powers .entry)) (now (frequencies .entry)) terms reference (now (thresholds .entry)) (now (factors .entry)) (now (earlier .entry))) (now (scores .entry)) ⌝ }
 {
     let k = terms_refusal(
         powers.len(),
@@ -69,6 +71,7 @@ pub fn dreg_hour(
         earlier.len(),
         scores.len(),
         terms,
+        reference_fits(reference),
         thresholds,
         factors,
         true,
@@ -84,6 +87,7 @@ pub fn dreg_hour(
         frequencies,
         &transfers,
         terms,
+        reference,
         thresholds,
         factors,
         earlier,
@@ -97,14 +101,15 @@ pub fn hour(
     powers: &[i64],
     frequencies: &[i64],
     terms: Terms,
+    reference: Millihertz,
     shift: Shift,
     thresholds: &[i64],
     factors: &[i64],
     earlier: &[u8],
     scores: &mut [u8],
 ) -> Settlement
-    ensures answers { λ r. ⌜ r ≡ hourAnswer (eDRegHour (now (powers .entry)) (now (frequencies .entry)) terms shift (now (thresholds .entry)) (now (factors .entry)) (now (earlier .entry))) (length (now (scores .entry))) ⌝ }
-    ensures leaves { λ r. ⌜ now (scores .exit) ≡ scoresLeft (eDRegHour (now (powers .entry)) (now (frequencies .entry)) terms shift (now (thresholds .entry)) (now (factors .entry)) (now (earlier .entry))) (now (scores .entry)) ⌝ }
+    ensures answers { λ r. ⌜ r ≡ hourAnswer (eDRegHour (now (powers .entry)) (now (frequencies .entry)) terms reference shift (now (thresholds .entry)) (now (factors .entry)) (now (earlier .entry))) (length (now (scores .entry))) ⌝ }
+    ensures leaves { λ r. ⌜ now (scores .exit) ≡ scoresLeft (eDRegHour (now (powers .entry)) (now (frequencies .entry)) terms reference shift (now (thresholds .entry)) (now (factors .entry)) (now (earlier .entry))) (now (scores .entry)) ⌝ }
 {
     let k = shift_refusal(
         powers.len(),
@@ -112,6 +117,7 @@ pub fn hour(
         earlier.len(),
         scores.len(),
         terms,
+        reference,
         shift,
         thresholds,
         factors,
@@ -123,6 +129,7 @@ pub fn hour(
         powers,
         frequencies,
         terms,
+        reference,
         shift,
         thresholds,
         factors,
@@ -148,7 +155,7 @@ fn at_refusal(terms: Terms, thresholds: &[i64], factors: &[i64], rate: u8) -> u8
     ensures { λ r. ⌜ r ≡ atRefusal terms (now (thresholds .entry)) (now (factors .entry)) rate ⌝ }
 {
     let n = limits::SECONDS;
-    let k = terms_refusal(n, n, 0, n, terms, thresholds, factors, true, true);
+    let k = terms_refusal(n, n, 0, n, terms, true, thresholds, factors, true, true);
     let rated = whole::unless(rate <= limits::SCORE, refusals::BAD_READING, 0);
     whole::or_else(k, rated)
 }
@@ -170,27 +177,30 @@ pub fn refused_hour(number: u8) -> Settlement
     }
 }
 
-// 1, 2, 3, 5, 10, for sReg's hour too; the readings and the earlier scores are tested where the hour is scored.
-// `priced` and `planned` are the tests of what is shifted, which pass where nothing is.
+// 1, 2, 19, 3, 5, 10, for sReg's hour too; the readings and the earlier scores are tested where the hour is scored.
+// `referred` is the test of the reference, which passes where none is taken; `priced` and `planned` are those of what
+// is shifted, which pass where nothing is.
 pub fn terms_refusal(
     powers: usize,
     frequencies: usize,
     earlier: usize,
     places: usize,
     terms: Terms,
+    referred: bool,
     thresholds: &[i64],
     factors: &[i64],
     priced: bool,
     planned: bool,
 ) -> u8
-    ensures { λ r. ⌜ r ≡ termsRefusal powers frequencies earlier places terms (now (thresholds .entry)) (now (factors .entry)) priced planned ⌝ }
+    ensures { λ r. ⌜ r ≡ termsRefusal powers frequencies earlier places terms referred (now (thresholds .entry)) (now (factors .entry)) priced planned ⌝ }
 {
     let targets = whole::unless(planned, refusals::BAD_TRANSFER, 0);
     let banded = bands::check(thresholds, factors) == 0;
     let bands = whole::unless(banded, refusals::BAD_BANDS, targets);
     let money = prices_fit(terms.clearing, terms.performance) & priced;
     let prices = whole::unless(money, refusals::BAD_MONEY, bands);
-    let capacity = whole::unless(capacity_fits(terms), refusals::BAD_CAPACITY, prices);
+    let reference = whole::unless(referred, refusals::BAD_REFERENCE, prices);
+    let capacity = whole::unless(capacity_fits(terms), refusals::BAD_CAPACITY, reference);
     let lengths = lengths_fit(powers, frequencies, earlier, places);
     whole::unless(lengths, refusals::WRONG_LENGTH, capacity)
 }
@@ -209,6 +219,13 @@ fn capacity_fits(terms: Terms) -> bool
     whole::within(size, 1, limits::CAPACITY)
 }
 
+fn reference_fits(reference: Millihertz) -> bool
+    ensures { λ r. ⌜ r ≡ isReference (reference .0) ⌝ }
+{
+    let around = reference.0;
+    whole::within(around, limits::LEAST_REFERENCE, limits::MOST_REFERENCE)
+}
+
 fn lengths_fit(powers: usize, frequencies: usize, earlier: usize, places: usize) -> bool
     ensures { λ r. ⌜ r ≡ lengthsFit powers frequencies earlier places ⌝ }
 {
@@ -225,6 +242,7 @@ fn worked(
     frequencies: &[i64],
     transfers: &[i64],
     terms: Terms,
+    reference: Millihertz,
     thresholds: &[i64],
     factors: &[i64],
     earlier: &[u8],
@@ -232,13 +250,20 @@ fn worked(
     scores: &mut [u8],
 ) -> Settlement
     requires { ⌜ Within mostEnergyFee (energy .0) ⌝ }
-    ensures answers { λ r. ⌜ r ≡ workedOf (now (powers .entry)) (now (frequencies .entry)) (now (transfers .entry)) terms (now (thresholds .entry)) (now (factors .entry)) (now (earlier .entry)) energy (length (now (scores .entry))) ⌝ }
-    ensures leaves { λ r. ⌜ now (scores .exit) ≡ workedLeft (now (powers .entry)) (now (frequencies .entry)) (now (transfers .entry)) (terms .capacity) (now (earlier .entry)) (now (scores .entry)) ⌝ }
+    ensures answers { λ r. ⌜ r ≡ workedOf (now (powers .entry)) (now (frequencies .entry)) (now (transfers .entry)) terms reference (now (thresholds .entry)) (now (factors .entry)) (now (earlier .entry)) energy (length (now (scores .entry))) ⌝ }
+    ensures leaves { λ r. ⌜ now (scores .exit) ≡ workedLeft (now (powers .entry)) (now (frequencies .entry)) (now (transfers .entry)) (terms .capacity) reference (now (earlier .entry)) (now (scores .entry)) ⌝ }
 {
     if !rate::are_scores(earlier) {
         return refused_hour(refusals::BAD_READING);
     }
-    let number = score::run_scores(powers, frequencies, transfers, terms.capacity, scores);
+    let number = score::run_scores(
+        powers,
+        frequencies,
+        transfers,
+        terms.capacity,
+        reference,
+        scores,
+    );
     if number != 0 {
         return refused_hour(number);
     }
@@ -333,18 +358,19 @@ fn plus(quality: Dollars, energy: Dollars) -> Dollars
     Dollars(part + service)
 }
 
-// `terms_refusal`, with what is shifted.
+// `terms_refusal`, with the reference and what is shifted.
 fn shift_refusal(
     powers: usize,
     frequencies: usize,
     earlier: usize,
     places: usize,
     terms: Terms,
+    reference: Millihertz,
     shift: Shift,
     thresholds: &[i64],
     factors: &[i64],
 ) -> u8
-    ensures { λ r. ⌜ r ≡ termsRefusal powers frequencies earlier places terms (now (thresholds .entry)) (now (factors .entry)) (energyPricesFit (eDReg shift)) (targetsFit (eDReg shift)) ⌝ }
+    ensures { λ r. ⌜ r ≡ termsRefusal powers frequencies earlier places terms (isReference (reference .0)) (now (thresholds .entry)) (now (factors .entry)) (energyPricesFit (eDReg shift)) (targetsFit (eDReg shift)) ⌝ }
 {
     let priced = prices_fit(shift.discharge, shift.charge);
     let planned = whole::all_within(&shift.targets, LEAST_TRANSFER, limits::TRANSFER);
@@ -354,6 +380,7 @@ fn shift_refusal(
         earlier,
         places,
         terms,
+        reference_fits(reference),
         thresholds,
         factors,
         priced,
@@ -366,6 +393,7 @@ fn shifted(
     powers: &[i64],
     frequencies: &[i64],
     terms: Terms,
+    reference: Millihertz,
     shift: Shift,
     thresholds: &[i64],
     factors: &[i64],
@@ -373,8 +401,8 @@ fn shifted(
     scores: &mut [u8],
 ) -> Settlement
     requires { ⌜ targetsFit (eDReg shift) ≡ true ⌝ }
-    ensures answers { λ r. ⌜ r ≡ workedOf (now (powers .entry)) (now (frequencies .entry)) (planOf (shift .targets)) terms (now (thresholds .entry)) (now (factors .entry)) (now (earlier .entry)) (energyOf (now (powers .entry)) (eDReg shift)) (length (now (scores .entry))) ⌝ }
-    ensures leaves { λ r. ⌜ now (scores .exit) ≡ workedLeft (now (powers .entry)) (now (frequencies .entry)) (planOf (shift .targets)) (terms .capacity) (now (earlier .entry)) (now (scores .entry)) ⌝ }
+    ensures answers { λ r. ⌜ r ≡ workedOf (now (powers .entry)) (now (frequencies .entry)) (planOf (shift .targets)) terms reference (now (thresholds .entry)) (now (factors .entry)) (now (earlier .entry)) (energyOf (now (powers .entry)) (eDReg shift)) (length (now (scores .entry))) ⌝ }
+    ensures leaves { λ r. ⌜ now (scores .exit) ≡ workedLeft (now (powers .entry)) (now (frequencies .entry)) (planOf (shift .targets)) (terms .capacity) reference (now (earlier .entry)) (now (scores .entry)) ⌝ }
 {
     let mut transfers = [0i64; limits::SECONDS];
     ramp::plan(&shift.targets, &mut transfers);
@@ -386,6 +414,7 @@ fn shifted(
         frequencies,
         &transfers,
         terms,
+        reference,
         thresholds,
         factors,
         earlier,

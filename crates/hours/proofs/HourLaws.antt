@@ -18,6 +18,7 @@ use Rattle.bands.proofs.Laws.{bands-fit}
 use Rattle.units.specs.Refusals.{wrongLength}
 use Rattle.fees.specs.Fees.{mostHourAmount}
 use Rattle.rate.proofs.Rates.{more-unfit}
+use Rattle.units.specs.declared.Millihertz.{Millihertz}
 use Rattle.hour.specs.Hour.{WholeHour, secondsFit, hourRefusal, hourAnswer, refusedHour, scoresOf, scoresLeft}
 use Rattle.hour.proofs.Laws.{fit, refusal-is, hour-refused, scores-long, hour-within}
 use Rattle.hour.specs.declared.Terms.{Terms}
@@ -90,21 +91,21 @@ many-by Edreg s h n many = rw (more-unfit (length (h .earlier)) many, and-false 
 many-by Sreg s h n many = rw (more-unfit (length (h .earlier)) many, and-false (secondsFit (length (h .powers)) (length (h .frequencies)) n))
 
 -- the bands do not change the scores; and of bands that do not fit it does not matter which
-scores-same : (a : words.Hour) (s : EventState) (shift : Shift) (powers frequencies : List ℤ) (terms : Terms) (earlier : List ℕ) (t g u v : List ℤ) →
+scores-same : (a : words.Hour) (s : EventState) (shift : Shift) (powers frequencies : List ℤ) (terms : Terms) (reference : Millihertz) (earlier : List ℕ) (t g u v : List ℤ) →
     let service = serviceOf a shift in
-    scoresBy a s (hourFrom powers frequencies terms service t g earlier) ≡ scoresBy a s (hourFrom powers frequencies terms service u v earlier)
+    scoresBy a s (hourFrom powers frequencies terms reference service t g earlier) ≡ scoresBy a s (hourFrom powers frequencies terms reference service u v earlier)
 unfolding scoresOf sRegScores
-scores-same Dreg s shift powers frequencies terms earlier t g u v = refl
-scores-same Edreg s shift powers frequencies terms earlier t g u v = refl
-scores-same Sreg s shift powers frequencies terms earlier t g u v = refl
+scores-same Dreg s shift powers frequencies terms reference earlier t g u v = refl
+scores-same Edreg s shift powers frequencies terms reference earlier t g u v = refl
+scores-same Sreg s shift powers frequencies terms reference earlier t g u v = refl
 
-unfit-same : (a : words.Hour) (s : EventState) (shift : Shift) (powers frequencies : List ℤ) (terms : Terms) (earlier : List ℕ) (t g u v : List ℤ) (n : ℕ) → bandsFit t g ≡ false → bandsFit u v ≡ false →
+unfit-same : (a : words.Hour) (s : EventState) (shift : Shift) (powers frequencies : List ℤ) (terms : Terms) (reference : Millihertz) (earlier : List ℕ) (t g u v : List ℤ) (n : ℕ) → bandsFit t g ≡ false → bandsFit u v ≡ false →
     let service = serviceOf a shift in
-    refusalBy a s (hourFrom powers frequencies terms service t g earlier) n ≡ refusalBy a s (hourFrom powers frequencies terms service u v earlier) n
+    refusalBy a s (hourFrom powers frequencies terms reference service t g earlier) n ≡ refusalBy a s (hourFrom powers frequencies terms reference service u v earlier) n
 unfolding hourRefusal sRegRefusal
-unfit-same Dreg s shift powers frequencies terms earlier t g u v n one other = rw (one, other)
-unfit-same Edreg s shift powers frequencies terms earlier t g u v n one other = rw (one, other)
-unfit-same Sreg s shift powers frequencies terms earlier t g u v n one other = rw (one, other)
+unfit-same Dreg s shift powers frequencies terms reference earlier t g u v n one other = rw (one, other)
+unfit-same Edreg s shift powers frequencies terms reference earlier t g u v n one other = rw (one, other)
+unfit-same Sreg s shift powers frequencies terms reference earlier t g u v n one other = rw (one, other)
 
 -- a score is at most 100
 listed-small : (f : ℕ → ℕ) → ((k : ℕ) → f k ≤ 100) → (i n k : ℕ) → getD (listed f i n) k 0 ≤ 100
@@ -114,8 +115,8 @@ listed-small f h i (suc n) (suc k) = listed-small f h (suc i) n k
 
 pub score-small : (a : words.Hour) (s : EventState) (h : WholeHour) (i : ℕ) → getD (scoresBy a s h) i 0 ≤ 100
 unfolding scoresOf runScores runScoreAt sRegScores
-score-small Dreg s h i = listed-small _ (λ k. score-within _ _ _ _) 0 (length (h .powers)) i
-score-small Edreg s h i = listed-small _ (λ k. score-within _ _ _ _) 0 (length (h .powers)) i
+score-small Dreg s h i = listed-small _ (λ k. score-within _ _ _ _ _) 0 (length (h .powers)) i
+score-small Edreg s h i = listed-small _ (λ k. score-within _ _ _ _ _) 0 (length (h .powers)) i
 score-small Sreg s h i = scores-most s (h .terms .capacity .0) (h .powers) (h .frequencies) i
 
 -- ---- the refusal's number, of an hour whose numbers are as many as there are to be
@@ -139,13 +140,13 @@ refused-is h f = by-test (h .fits) (λ (t : h .fits ≡ true). refused-fits h t 
 unfit : (t g : List ℤ) → mostBands < length t → bandsFit t g ≡ false
 unfit t g h = by-test (bandsFit t g) (λ (e : bandsFit t g ≡ true). absurd (omega (arith, bands-fit t g e .few))) (λ (e : bandsFit t g ≡ false). e)
 
-module _ (a : words.Hour) (s : EventState) (powers frequencies : List ℤ) (terms : Terms) (shift : Shift) (earlier : List ℕ) where
+module _ (a : words.Hour) (s : EventState) (powers frequencies : List ℤ) (terms : Terms) (reference : Millihertz) (shift : Shift) (earlier : List ℕ) where
   abbrev banded : List ℤ → List ℤ → WholeHour
-  banded t g = hourFrom powers frequencies terms (serviceOf a shift) t g earlier
+  banded t g = hourFrom powers frequencies terms reference (serviceOf a shift) t g earlier
 
   module _ (t g u v : List ℤ) (many : mostBands < length t) (also : mostBands < length u) (places : ℕ) where
     refusal-same : refusalBy a s (banded t g) places ≡ refusalBy a s (banded u v) places
-    refusal-same = unfit-same a s shift powers frequencies terms earlier t g u v places (unfit t g many) (unfit u v also)
+    refusal-same = unfit-same a s shift powers frequencies terms reference earlier t g u v places (unfit t g many) (unfit u v also)
 
     refused : refusalBy a s (banded t g) places ≡ 0 → ⊥
     refused z = clash (sym (unfit t g many) ∙ bands-by a s (banded t g) places z)
@@ -155,9 +156,9 @@ module _ (a : words.Hour) (s : EventState) (powers frequencies : List ℤ) (term
 
 -- ---- an hour from its parts, by the first 100 pairs and by all of them
 
-module _ (a : words.Hour) (s : EventState) (powers frequencies : List ℤ) (terms : Terms) (shift : Shift) (bands : List ℤ) (earlier : List ℕ) where
+module _ (a : words.Hour) (s : EventState) (powers frequencies : List ℤ) (terms : Terms) (reference : Millihertz) (shift : Shift) (bands : List ℤ) (earlier : List ℕ) where
   abbrev by : ℕ → WholeHour
-  by n = hourFrom powers frequencies terms (serviceOf a shift) (column bands 0 n) (column bands 1 n) earlier
+  by n = hourFrom powers frequencies terms reference (serviceOf a shift) (column bands 0 n) (column bands 1 n) earlier
 
   abbrev all : ℕ
   all = length bands / 2
@@ -166,7 +167,7 @@ module _ (a : words.Hour) (s : EventState) (powers frequencies : List ℤ) (term
   pairs-number : (leb all 100 ≡ false) → (places : ℕ) → refusalBy a s (by (min all 100)) places ≡ refusalBy a s (by all) places
   pairs-number t places =
       let h = leb-false all 100 t in
-      refusal-same a s powers frequencies terms shift earlier _ _ _ _ (omega (arith, length-column bands 0 (min all 100))) (omega (arith, length-column bands 0 all)) places
+      refusal-same a s powers frequencies terms reference shift earlier _ _ _ _ (omega (arith, length-column bands 0 (min all 100))) (omega (arith, length-column bands 0 all)) places
 
   pub pairs-answer : (places : ℕ) → endedBy a s (by (pairsIn (length bands))) places ≡ endedBy a s (by all) places
   unfolding pairsIn
@@ -174,7 +175,7 @@ module _ (a : words.Hour) (s : EventState) (powers frequencies : List ℤ) (term
       by-test (leb all 100)
       (λ (t : leb all 100 ≡ true). let h = leb-true all 100 t in let e : min all 100 ≡ all = omega arith in rw e)
       (λ (t : leb all 100 ≡ false). let h = leb-false all 100 t in
-      answer-same a s powers frequencies terms shift earlier _ _ _ _ (omega (arith, length-column bands 0 (min all 100))) (omega (arith, length-column bands 0 all)) places)
+      answer-same a s powers frequencies terms reference shift earlier _ _ _ _ (omega (arith, length-column bands 0 (min all 100))) (omega (arith, length-column bands 0 all)) places)
 
   pub pairs-left : (run : List ℕ) → leftBy a s (by (pairsIn (length bands))) run ≡ leftBy a s (by all) run
   unfolding pairsIn
@@ -183,7 +184,7 @@ module _ (a : words.Hour) (s : EventState) (powers frequencies : List ℤ) (term
       (λ (t : leb all 100 ≡ true). let h = leb-true all 100 t in let e : min all 100 ≡ all = omega arith in rw e)
       (λ (t : leb all 100 ≡ false).
       left-by a s (by (min all 100)) run
-      ∙ (λ i. kept (pairs-number t (length run) i) (scores-same a s shift powers frequencies terms earlier (column bands 0 (min all 100)) (column bands 1 (min all 100)) (column bands 0 all) (column bands 1 all) i) run)
+      ∙ (λ i. kept (pairs-number t (length run) i) (scores-same a s shift powers frequencies terms reference earlier (column bands 0 (min all 100)) (column bands 1 (min all 100)) (column bands 0 all) (column bands 1 all) i) run)
       ∙ sym (left-by a s (by all) run))
 
 -- ---- more earlier scores than an hour takes: it is refused with 1, so that the first four stand for all
@@ -208,39 +209,39 @@ module _ (a : words.Hour) (s : EventState) (hour : List ℕ → WholeHour) (same
 
 -- ---- and so the whole hour
 
-module _ (a : words.Hour) (terms : Terms) (shift : Shift) (s : EventState) (bands earlier readings powers frequencies : List ℤ) (before : Earlier) (run : List ℕ) (p : powers ≡ column readings 0 secondsOfHour)
+module _ (a : words.Hour) (terms : Terms) (reference : Millihertz) (shift : Shift) (s : EventState) (bands earlier readings powers frequencies : List ℤ) (before : Earlier) (run : List ℕ) (p : powers ≡ column readings 0 secondsOfHour)
     (f : frequencies ≡ column readings 1 secondsOfHour) (e : before ≡ firstFour earlier) (lent : length run ≡ secondsOfHour) (counts : countsFit (length bands) true (length readings) ≡ true) where
   abbrev parts : List ℕ → WholeHour
-  parts l = by a s powers frequencies terms shift bands l (pairsIn (length bands))
+  parts l = by a s powers frequencies terms reference shift bands l (pairsIn (length bands))
 
-  pub ended-is : endedBy a s (parts (taken before)) (length run) ≡ settledBy (hourBy a terms shift s bands true earlier readings)
+  pub ended-is : endedBy a s (parts (taken before)) (length run) ≡ settledBy (hourBy a terms reference shift s bands true earlier readings)
   unfolding hourBy settledBy
   ended-is =
       ap (λ (x : Earlier). endedBy a s (parts (taken x)) (length run)) e
       ∙ four-answer a s parts (λ l. refl) earlier (length run)
-      ∙ pairs-answer a s powers frequencies terms shift bands (scoresIn earlier) (length run)
+      ∙ pairs-answer a s powers frequencies terms reference shift bands (scoresIn earlier) (length run)
       ∙ rw (p, f, lent, counts)
 
-  pub left-is : leftBy a s (parts (taken before)) run ≡ scoresAfter (hourBy a terms shift s bands true earlier readings) run
+  pub left-is : leftBy a s (parts (taken before)) run ≡ scoresAfter (hourBy a terms reference shift s bands true earlier readings) run
   unfolding hourBy scoresAfter
   left-is =
       ap (λ (x : Earlier). leftBy a s (parts (taken x)) run) e
       ∙ four-left a s parts (λ l. refl) earlier run
-      ∙ pairs-left a s powers frequencies terms shift bands (scoresIn earlier) run
+      ∙ pairs-left a s powers frequencies terms reference shift bands (scoresIn earlier) run
       ∙ left-by a s _ run
-      ∙ rw (p, f, lent, settlement-number (hourBy a terms shift s bands true earlier readings) counts)
+      ∙ rw (p, f, lent, settlement-number (hourBy a terms reference shift s bands true earlier readings) counts)
 
 -- ---- an hour whose numbers are as many as there are to be has its earlier scores counted; and one whose numbers are not as many
 
 pub is-counted : (bands readings : ℕ) (counted : Bool) → countsFit bands counted readings ≡ true → counted ≡ true
 is-counted bands readings counted e = and-both (eqb (bands % 2) 0) counted (and-both (eqb (bands % 2) 0 && counted) (eqb readings (2 * secondsOfHour)) e .0) .1
 
-module _ (a : words.Hour) (terms : Terms) (shift : Shift) (s : EventState) (bands : List ℤ) (counted : Bool) (earlier readings : List ℤ) (counts : countsFit (length bands) counted (length readings) ≡ false) where
-  pub ended-none : refusedSReg wrongLength ≡ settledBy (hourBy a terms shift s bands counted earlier readings)
+module _ (a : words.Hour) (terms : Terms) (reference : Millihertz) (shift : Shift) (s : EventState) (bands : List ℤ) (counted : Bool) (earlier readings : List ℤ) (counts : countsFit (length bands) counted (length readings) ≡ false) where
+  pub ended-none : refusedSReg wrongLength ≡ settledBy (hourBy a terms reference shift s bands counted earlier readings)
   unfolding hourBy settledBy
   ended-none = rw counts
 
-  pub left-none : (run : List ℕ) → run ≡ scoresAfter (hourBy a terms shift s bands counted earlier readings) run
+  pub left-none : (run : List ℕ) → run ≡ scoresAfter (hourBy a terms reference shift s bands counted earlier readings) run
   unfolding hourBy settledBy scoresAfter refusedHour
   left-none run = rw counts
 

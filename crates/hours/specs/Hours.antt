@@ -1,5 +1,5 @@
 -- The questions about a whole hour: its terms, its bands as pairs, its earlier scores, for sReg a state, and its readings as pairs (docs/DESK.md, "Questions").
-use Prim.Native.Nat.{ℕ, _*_, _/_, _%_}
+use Prim.Native.Nat.{ℕ, _+_, _*_, _/_, _%_}
 use mathlib.Core.Bool.{Bool, _&&_}
 use mathlib.Core.List.{List, [], _∷_, _++_, map}
 use lib.Dec.{eqb}
@@ -7,9 +7,10 @@ use lib.IntN.{ℤ, pos}
 use lib.ListN.{length, drop}
 use Rattle.whole.specs.Choice.{pick, kept}
 use Rattle.whole.specs.Whole.{inRange}
-use Rattle.units.specs.Limits.{secondsOfHour}
+use Rattle.units.specs.Limits.{nominal, secondsOfHour}
 use Rattle.units.specs.Refusals.{wrongLength}
-use Rattle.units.specs.Units.{kilowatts}
+use Rattle.units.specs.Units.{kilowatts, millihertz}
+use Rattle.units.specs.declared.Millihertz.{Millihertz}
 use Rattle.hour.specs.Hour.{Service, dReg, eDReg, WholeHour, scoresOf, scoresLeft, hourAnswer}
 use Rattle.hour.specs.declared.Terms.{Terms}
 use Rattle.hour.specs.declared.Shift.{Shift}
@@ -86,17 +87,27 @@ pub record Basis : Type 0 where
   pub hour : WholeHour
   pub state : EventState
 
--- CAPACITY CLEARING PERFORMANCE;
-unfoldable pub termsOf : List ℤ → Terms
-termsOf n = record { capacity = kilowatts (number n 0); clearing = number n 1; performance = number n 2 }
+-- CAPACITY; for dReg and E-dReg REFERENCE, "directly after CAPACITY" (document 02, #107), which sReg does not move; CLEARING PERFORMANCE
+abbrev pub pricesFrom : words.Hour → ℕ
+pricesFrom Dreg = 2
+pricesFrom Edreg = 2
+pricesFrom Sreg = 1
+
+unfoldable pub termsOf : words.Hour → List ℤ → Terms
+termsOf hour n = record { capacity = kilowatts (number n 0); clearing = number n (pricesFrom hour); performance = number n (pricesFrom hour + 1) }
+
+unfoldable pub referenceOf : words.Hour → List ℤ → Millihertz
+referenceOf Dreg n = millihertz (number n 1)
+referenceOf Edreg n = millihertz (number n 1)
+referenceOf Sreg n = millihertz (pos nominal)
 
 -- then, for E-dReg, DISCHARGE CHARGE, the target before the hour, the 4 quarter targets
 unfoldable pub shiftOf : List ℤ → Shift
 shiftOf n =
     record {
-      discharge = number n 3;
-      charge = number n 4;
-      targets = number n 5 ∷ number n 6 ∷ number n 7 ∷ number n 8 ∷ number n 9 ∷ [];
+      discharge = number n 4;
+      charge = number n 5;
+      targets = number n 6 ∷ number n 7 ∷ number n 8 ∷ number n 9 ∷ number n 10 ∷ [];
     }
 
 abbrev pub serviceOf : words.Hour → Shift → Service
@@ -104,18 +115,18 @@ serviceOf Dreg shift = dReg
 serviceOf Edreg shift = eDReg shift
 serviceOf Sreg shift = dReg
 
-abbrev pub hourFrom : List ℤ → List ℤ → Terms → Service → List ℤ → List ℤ → List ℕ → WholeHour
-hourFrom powers frequencies terms service thresholds factors earlier =
-    record { powers = powers; frequencies = frequencies; terms = terms; service = service; thresholds = thresholds; factors = factors; earlier = earlier }
+abbrev pub hourFrom : List ℤ → List ℤ → Terms → Millihertz → Service → List ℤ → List ℤ → List ℕ → WholeHour
+hourFrom powers frequencies terms reference service thresholds factors earlier =
+    record { powers = powers; frequencies = frequencies; terms = terms; reference = reference; service = service; thresholds = thresholds; factors = factors; earlier = earlier }
 
 -- by pairs THRESHOLD FACTOR, earlier scores and 3,600 pairs POWER FREQUENCY
-unfoldable pub hourBy : words.Hour → Terms → Shift → EventState → List ℤ → Bool → List ℤ → List ℤ → Basis
-hourBy asked terms shift state bands counted earlier readings =
+unfoldable pub hourBy : words.Hour → Terms → Millihertz → Shift → EventState → List ℤ → Bool → List ℤ → List ℤ → Basis
+hourBy asked terms reference shift state bands counted earlier readings =
     record {
       fits = countsFit (length bands) counted (length readings);
       asked = asked;
       hour =
-          hourFrom (column readings 0 secondsOfHour) (column readings 1 secondsOfHour) terms (serviceOf asked shift)
+          hourFrom (column readings 0 secondsOfHour) (column readings 1 secondsOfHour) terms reference (serviceOf asked shift)
           (column bands 0 (length bands / 2)) (column bands 1 (length bands / 2)) (scoresIn earlier);
       state = state;
     }
@@ -123,7 +134,8 @@ hourBy asked terms shift state bands counted earlier readings =
 -- the hour that a question asks about
 abbrev pub hourAsked : words.Hour → HourNumbers → Basis
 hourAsked hour n =
-    hourBy hour (termsOf (n .terms)) (shiftOf (n .terms)) (stateHanded hour (n .readings)) (n .bands) (n .counted) (n .earlier) (drop (stateNumbers hour) (n .readings))
+    hourBy hour (termsOf hour (n .terms)) (referenceOf hour (n .terms)) (shiftOf (n .terms)) (stateHanded hour (n .readings)) (n .bands) (n .counted) (n .earlier)
+    (drop (stateNumbers hour) (n .readings))
 
 -- ---- what it comes to
 

@@ -7,7 +7,7 @@ ghost use lib.ListN.{length, drop};
 ghost use Rattle.numbers.specs.Numbers.{column};
 ghost use Rattle.numbers.specs.Inner.{taken};
 ghost use Rattle.words.specs.Inner.{boxed};
-ghost use Rattle.hours.specs.Hours.{hourNumbers, termsOf, shiftOf, serviceOf, hourFrom, countsFit, stateNumbers, equals, stateAsked, stateHanded, stateFields, stateless, endedBy, leftBy, hourBy, hourAsked, settledBy, settlement, scoresAfter, hourReply};
+ghost use Rattle.hours.specs.Hours.{hourNumbers, pricesFrom, termsOf, referenceOf, shiftOf, serviceOf, hourFrom, countsFit, stateNumbers, equals, stateAsked, stateHanded, stateFields, stateless, endedBy, leftBy, hourBy, hourAsked, settledBy, settlement, scoresAfter, hourReply};
 ghost use Rattle.hours.specs.Inner.{pairsIn, fieldsShown, inTwelve};
 use hour::Settlement;
 use hour::Shift;
@@ -16,6 +16,7 @@ use numbers::Earlier;
 use sreg::EventState;
 use sreg_hour::Settled;
 use units::Kilowatts;
+use units::Millihertz;
 use units::limits;
 use units::refusals;
 use words::Few;
@@ -106,7 +107,8 @@ fn settle_asked(
     }
     settle_by(
         hour,
-        terms_of(terms),
+        terms_of(hour, terms),
+        reference_of(hour, terms),
         shift_of(terms),
         state_in(hour, readings),
         bands,
@@ -220,6 +222,7 @@ fn counts_fit(bands: usize, counted: bool, readings: usize) -> bool
 fn settle_by(
     hour: Hour,
     terms: Terms,
+    reference: Millihertz,
     shift: Shift,
     state: EventState,
     bands: &[i64],
@@ -228,8 +231,8 @@ fn settle_by(
     scores: &mut [u8; limits::SECONDS],
 ) -> Settled
     requires { ⌜ countsFit (length (now bands)) true (length (now readings)) ≡ true ⌝ }
-    ensures answers { λ r. ⌜ r ≡ settledBy (hourBy hour terms shift state (now (bands .entry)) true (now (earlier .entry)) (now (readings .entry))) ⌝ }
-    ensures leaves { λ r. ⌜ now (scores .exit) ≡ scoresAfter (hourBy hour terms shift state (now (bands .entry)) true (now (earlier .entry)) (now (readings .entry))) (now (scores .entry)) ⌝ }
+    ensures answers { λ r. ⌜ r ≡ settledBy (hourBy hour terms reference shift state (now (bands .entry)) true (now (earlier .entry)) (now (readings .entry))) ⌝ }
+    ensures leaves { λ r. ⌜ now (scores .exit) ≡ scoresAfter (hourBy hour terms reference shift state (now (bands .entry)) true (now (earlier .entry)) (now (readings .entry))) (now (scores .entry)) ⌝ }
 {
     let mut powers = [0i64; limits::SECONDS];
     let mut frequencies = [0i64; limits::SECONDS];
@@ -239,6 +242,7 @@ fn settle_by(
     settle_bands(
         hour,
         terms,
+        reference,
         shift,
         state,
         bands,
@@ -253,6 +257,7 @@ fn settle_by(
 fn settle_bands(
     hour: Hour,
     terms: Terms,
+    reference: Millihertz,
     shift: Shift,
     state: EventState,
     bands: &[i64],
@@ -262,8 +267,8 @@ fn settle_bands(
     scores: &mut [u8],
 ) -> Settled
     requires { ⌜ before .count ≤ length (before .scores) ⌝ }
-    ensures answers { λ r. ⌜ r ≡ endedBy hour state (hourFrom (now (powers .entry)) (now (frequencies .entry)) terms (serviceOf hour shift) (column (now (bands .entry)) 0 (pairsIn (length (now (bands .entry))))) (column (now (bands .entry)) 1 (pairsIn (length (now (bands .entry))))) (taken before)) (length (now (scores .entry))) ⌝ }
-    ensures leaves { λ r. ⌜ now (scores .exit) ≡ leftBy hour state (hourFrom (now (powers .entry)) (now (frequencies .entry)) terms (serviceOf hour shift) (column (now (bands .entry)) 0 (pairsIn (length (now (bands .entry))))) (column (now (bands .entry)) 1 (pairsIn (length (now (bands .entry))))) (taken before)) (now (scores .entry)) ⌝ }
+    ensures answers { λ r. ⌜ r ≡ endedBy hour state (hourFrom (now (powers .entry)) (now (frequencies .entry)) terms reference (serviceOf hour shift) (column (now (bands .entry)) 0 (pairsIn (length (now (bands .entry))))) (column (now (bands .entry)) 1 (pairsIn (length (now (bands .entry))))) (taken before)) (length (now (scores .entry))) ⌝ }
+    ensures leaves { λ r. ⌜ now (scores .exit) ≡ leftBy hour state (hourFrom (now (powers .entry)) (now (frequencies .entry)) terms reference (serviceOf hour shift) (column (now (bands .entry)) 0 (pairsIn (length (now (bands .entry))))) (column (now (bands .entry)) 1 (pairsIn (length (now (bands .entry))))) (taken before)) (now (scores .entry)) ⌝ }
 {
     let mut thresholds = [0i64; 100];
     let mut factors = [0i64; 100];
@@ -277,6 +282,7 @@ fn settle_bands(
         powers,
         frequencies,
         terms,
+        reference,
         shift,
         state,
         &thresholds[..n],
@@ -295,12 +301,14 @@ fn pairs_in(numbers: usize) -> usize
     if 100 < n { 100 } else { n }
 }
 
-// Settles an hour of any kind; what is shifted is read for E-dReg alone, the state for sReg alone.
+// Settles an hour of any kind; sReg reads no reference, what is shifted is read for E-dReg alone, the state for sReg
+// alone.
 fn settle_kind(
     hour: Hour,
     powers: &[i64],
     frequencies: &[i64],
     terms: Terms,
+    reference: Millihertz,
     shift: Shift,
     state: EventState,
     thresholds: &[i64],
@@ -308,14 +316,15 @@ fn settle_kind(
     earlier: &[u8],
     scores: &mut [u8],
 ) -> Settled
-    ensures answers { λ r. ⌜ r ≡ endedBy hour state (hourFrom (now (powers .entry)) (now (frequencies .entry)) terms (serviceOf hour shift) (now (thresholds .entry)) (now (factors .entry)) (now (earlier .entry))) (length (now (scores .entry))) ⌝ }
-    ensures leaves { λ r. ⌜ now (scores .exit) ≡ leftBy hour state (hourFrom (now (powers .entry)) (now (frequencies .entry)) terms (serviceOf hour shift) (now (thresholds .entry)) (now (factors .entry)) (now (earlier .entry))) (now (scores .entry)) ⌝ }
+    ensures answers { λ r. ⌜ r ≡ endedBy hour state (hourFrom (now (powers .entry)) (now (frequencies .entry)) terms reference (serviceOf hour shift) (now (thresholds .entry)) (now (factors .entry)) (now (earlier .entry))) (length (now (scores .entry))) ⌝ }
+    ensures leaves { λ r. ⌜ now (scores .exit) ≡ leftBy hour state (hourFrom (now (powers .entry)) (now (frequencies .entry)) terms reference (serviceOf hour shift) (now (thresholds .entry)) (now (factors .entry)) (now (earlier .entry))) (now (scores .entry)) ⌝ }
 {
     match hour {
         Hour::Dreg => stateless(hour::dreg_hour(
             powers,
             frequencies,
             terms,
+            reference,
             thresholds,
             factors,
             earlier,
@@ -325,6 +334,7 @@ fn settle_kind(
             powers,
             frequencies,
             terms,
+            reference,
             shift,
             thresholds,
             factors,
@@ -354,13 +364,36 @@ fn stateless(settled: Settlement) -> Settled
     }
 }
 
-fn terms_of(numbers: [i64; 12]) -> Terms
-    ensures { λ r. ⌜ r ≡ termsOf numbers ⌝ }
+// How many numbers stand before the prices: an sReg hour has no reference.
+fn prices_from(hour: Hour) -> usize
+    ensures is { λ r. ⌜ r ≡ pricesFrom hour ⌝ }
+    ensures most { λ r. ⌜ r ≤ 2 ⌝ }
 {
+    match hour {
+        Hour::Dreg => 2,
+        Hour::Edreg => 2,
+        Hour::Sreg => 1,
+    }
+}
+
+fn terms_of(hour: Hour, numbers: [i64; 12]) -> Terms
+    ensures { λ r. ⌜ r ≡ termsOf hour numbers ⌝ }
+{
+    let n = prices_from(hour);
     Terms {
         capacity: Kilowatts(numbers[0]),
-        clearing: numbers[1],
-        performance: numbers[2],
+        clearing: numbers[n],
+        performance: numbers[n + 1],
+    }
+}
+
+fn reference_of(hour: Hour, numbers: [i64; 12]) -> Millihertz
+    ensures { λ r. ⌜ r ≡ referenceOf hour numbers ⌝ }
+{
+    match hour {
+        Hour::Dreg => Millihertz(numbers[1]),
+        Hour::Edreg => Millihertz(numbers[1]),
+        Hour::Sreg => Millihertz(limits::NOMINAL),
     }
 }
 
@@ -368,8 +401,8 @@ fn shift_of(numbers: [i64; 12]) -> Shift
     ensures { λ r. ⌜ r ≡ shiftOf numbers ⌝ }
 {
     Shift {
-        discharge: numbers[3],
-        charge: numbers[4],
-        targets: [numbers[5], numbers[6], numbers[7], numbers[8], numbers[9]],
+        discharge: numbers[4],
+        charge: numbers[5],
+        targets: [numbers[6], numbers[7], numbers[8], numbers[9], numbers[10]],
     }
 }

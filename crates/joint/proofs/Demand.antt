@@ -15,6 +15,7 @@ use denote.Ref.{RefT, now}
 use Rattle.whole.specs.Choice.{pick}
 use Rattle.whole.proofs.Choice.{by-test, passed, both-passed}
 use Rattle.units.specs.Limits.{isAmount}
+use Rattle.units.specs.declared.Millihertz.{Millihertz}
 use Rattle.history.specs.Rules.{Call}
 use Rattle.history.specs.Demand.{Run, opened, called, Demand3}
 use Rattle.history.proofs.Orders.{own-last}
@@ -73,13 +74,13 @@ joint-called = joint-posts
 abbrev pub lend : {X : Type 0} → X → RefT X
 lend x = record { ptr = (0, 0); name = 0; now = x }
 
-pub joint-made : (powers frequencies : List ℤ) (t : Terms) (shift : Shift) (thresholds factors : List ℤ) (earlier : List ℕ) (m : Month) (d x : ℕ) →
-    let h = eDRegHour powers frequencies t shift thresholds factors earlier in
+pub joint-made : (powers frequencies : List ℤ) (t : Terms) (r : Millihertz) (shift : Shift) (thresholds factors : List ℤ) (earlier : List ℕ) (m : Month) (d x : ℕ) →
+    let h = eDRegHour powers frequencies t r shift thresholds factors earlier in
     JointCalled (workedBy h) m d x (jointOf h m d x)
-joint-made powers frequencies t shift ts fs es m d x =
+joint-made powers frequencies t r shift ts fs es m d x =
     let κs : Lfts 5 = ([], ([], ([], ([], ([], tt))))) in
-    let given : Dens κs joint-kinds.ps = (lend powers, (lend frequencies, (t, (shift, (lend ts, (lend fs, (lend es, (m, (d, (x, tt)))))))))) in
-    joint-called κs given (jointOf (eDRegHour powers frequencies t shift ts fs es) m d x) given refl
+    let given : Dens κs joint-kinds.ps = (lend powers, (lend frequencies, (t, (r, (shift, (lend ts, (lend fs, (lend es, (m, (d, (x, tt))))))))))) in
+    joint-called κs given (jointOf (eDRegHour powers frequencies t r shift ts fs es) m d x) given refl
 
 pub by-posts : (days : ℕ) (es : List Event) (m : Month) → JointRun monthLedger days es m → Run monthLedger days (callsOf es) m
 by-posts days _ m (opens _ o) = opened m o

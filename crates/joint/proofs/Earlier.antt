@@ -30,7 +30,7 @@ module _ (κs : Lfts 5) (b : Dens κs joint-kinds.ps) (j : Joined) (e : AtExit (
     pub joint-rate-raised : let alone = hourAlone (jointHanded b) secondsOfHour in (alone .refusal ≡ 0) × (alone .rate ≤ j .hour .rate)
     joint-rate-raised =
         let g = joint-granted κs b j e met accepted in
-        rw (g .1) (hour-raised (jointHanded b) secondsOfHour (five-targets (b .1 .1 .1 .0) _ (good .1 .1 .1 .0)) (sym (refusal-is (jointHanded b) secondsOfHour) ∙ g .0))
+        rw (g .1) (hour-raised (jointHanded b) secondsOfHour (five-targets (b .1 .1 .1 .1 .0) _ (good .1 .1 .1 .1 .0)) (sym (refusal-is (jointHanded b) secondsOfHour) ∙ g .0))
 
     -- and the one after it, handed the last three scores of the hour that the first worked out
     module _ (ηs : Lfts 5) (c : Dens ηs joint-kinds.ps) (also : GoodsP ηs joint-kinds.ps c) (i : Joined) (f : AtExit (endedOf 5 joint-kinds.ps joint-kinds.r) ηs) (next : joint-reads.Post ηs c i f) where

@@ -2,6 +2,7 @@
 pub mod SameNumbers
 pub mod Demand
 pub mod Earlier
+pub mod Moved
 pub mod SReg
 mod Determined
 mod RefusedKeeps

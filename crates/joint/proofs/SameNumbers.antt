@@ -89,7 +89,7 @@ module _ (κs : Lfts 5) (b : Dens κs joint-kinds.ps) (j : Joined) (e : AtExit (
       let g = joint-granted z in
       let none : hourRefusal h secondsOfHour ≡ 0 = sym (refusal-is h secondsOfHour) ∙ g .0 in
       subst (Accepted h (scoresOf h)) (sym (g .1 ∙ hour-granted h secondsOfHour none))
-      (settled-accepted h secondsOfHour (fit h secondsOfHour none) (five-targets (b .1 .1 .1 .0) _ (good .1 .1 .1 .0)))
+      (settled-accepted h secondsOfHour (fit h secondsOfHour none) (five-targets (b .1 .1 .1 .1 .0) _ (good .1 .1 .1 .1 .0)))
 
 module _ (κs : Lfts 6) (a : Dens κs hour-kinds.ps) (r : Settlement) (s : AtExit (endedOf 6 hour-kinds.ps hour-kinds.r) κs) (p : hour-reads.Post κs a r s)
     (ηs : Lfts 5) (b : Dens ηs joint-kinds.ps) (j : Joined) (e : AtExit (endedOf 5 joint-kinds.ps joint-kinds.r) ηs) (q : joint-reads.Post ηs b j e) (same : SameHour (hourHanded κs a) (hourRun κs a) (jointHanded b)) where

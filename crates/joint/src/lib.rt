@@ -9,6 +9,7 @@ use hour::Shift;
 use hour::Terms;
 use month::Month;
 use sreg::EventState;
+use units::Millihertz;
 use units::limits;
 use units::refusals;
 
@@ -32,6 +33,7 @@ pub fn joint(
     powers: &[i64],
     frequencies: &[i64],
     terms: Terms,
+    reference: Millihertz,
     shift: Shift,
     thresholds: &[i64],
     factors: &[i64],
@@ -40,13 +42,14 @@ pub fn joint(
     day: u8,
     hour: u8,
 ) -> Joined
-    ensures { λ r. ⌜ r ≡ jointOf (eDRegHour (now (powers .entry)) (now (frequencies .entry)) terms shift (now (thresholds .entry)) (now (factors .entry)) (now (earlier .entry))) month day hour ⌝ }
+    ensures { λ r. ⌜ r ≡ jointOf (eDRegHour (now (powers .entry)) (now (frequencies .entry)) terms reference shift (now (thresholds .entry)) (now (factors .entry)) (now (earlier .entry))) month day hour ⌝ }
 {
     let mut scores: [u8; limits::SECONDS] = [0; limits::SECONDS];
     let worked = hour::hour(
         powers,
         frequencies,
         terms,
+        reference,
         shift,
         thresholds,
         factors,

@@ -17,7 +17,7 @@ use Rattle.units.specs.Refusals.{badMoney, badEnergy}
 use Rattle.units.specs.Limits.{isEnergy, isVoltage, isCost, isLossFee, mostEnergy, mostCost, mostLossFee}
 use Rattle.loss.specs.Loss.{atLeastZero, net, above, percent, basicFee, excessFee, lossRefusal, added, lossAnswer}
 use Rattle.loss.specs.Accepted.{LossFits}
-use Rattle.whole.proofs.Bounds.{from-zero, product-between, nearest-between}
+use Rattle.whole.proofs.Bounds.{in-range, product-between, nearest-between}
 
 pub loss-fits : (charged discharged voltage cost : ℤ) → lossRefusal charged discharged voltage cost ≡ 0 → LossFits charged discharged voltage cost
 unfolding lossRefusal
@@ -111,13 +111,13 @@ pub loss-posts : (charged discharged voltage cost : ℤ) →
 unfolding lossAnswer added
 loss-posts charged discharged voltage cost = by (eqb (lossRefusal charged discharged voltage cost) 0) (eqb-true _ 0)
   where
-    in-range : (k : ℕ) (z : ℤ) → k ≤ mostLossFee → Between (pos 0) (pos k) z → isLossFee z ≡ true
-    in-range k z l b = from-zero mostLossFee z (record { least = b .least; most = omega (arith, b .most) })
+    posts : (k : ℕ) (z : ℤ) → k ≤ mostLossFee → Between (pos 0) (pos k) z → isLossFee z ≡ true
+    posts k z l b = in-range (record { least = b .least; most = omega (arith, b .most) })
 
     by : (t : Bool) → (t ≡ true → lossRefusal charged discharged voltage cost ≡ 0) →
         let a = pick t (added 0 (basicFee charged discharged voltage cost) (excessFee charged discharged voltage cost)) (added (lossRefusal charged discharged voltage cost) (pos 0) (pos 0)) in
         (isLossFee (a .basic .0) ≡ true) × (isLossFee (a .excess .0) ≡ true)
     by true e =
         let f = loss-fits charged discharged voltage cost (e refl) in
-        (in-range mostBasic (basicFee charged discharged voltage cost) (omega arith) (basic-between f), in-range mostExcess (excessFee charged discharged voltage cost) (omega arith) (excess-between f))
-    by false e = (in-range 0 (pos 0) (omega arith) (omega arith), in-range 0 (pos 0) (omega arith) (omega arith))
+        (posts mostBasic (basicFee charged discharged voltage cost) (omega arith) (basic-between f), posts mostExcess (excessFee charged discharged voltage cost) (omega arith) (excess-between f))
+    by false e = (posts 0 (pos 0) (omega arith) (omega arith), posts 0 (pos 0) (omega arith) (omega arith))

@@ -68,7 +68,7 @@ module _ (κs : Lfts 2) (earlier scores : RefT (List ℕ)) (threshold : ℕ) (x 
       → r .refusal ≡ 0 → now earlier ≡ hourHanded ηs a .earlier → now scores ≡ hourRun ηs t → (x .refusal ≡ 0) × (x .reached ≡ leb threshold (r .rate))
   hour-reached ηs a good r t p none e f =
       judged _ _ (r .rate) e f
-      (left-fit (hourHanded ηs a) (hourRun ηs a) (hourRun ηs t) r (five-targets (a .1 .1 .1 .0) _ (good .1 .1 .1 .0)) (p .0) (p .1) none)
+      (left-fit (hourHanded ηs a) (hourRun ηs a) (hourRun ηs t) r (five-targets (a .1 .1 .1 .1 .0) _ (good .1 .1 .1 .1 .0)) (p .0) (p .1) none)
       (hour-accepted ηs a good r t p none .rate)
 
   pub sreg-hour-reached : (ηs : Lfts 6) (a : Dens ηs sreg-hour-kinds.ps) (r : Settled) (t : AtExit (endedOf 6 sreg-hour-kinds.ps sreg-hour-kinds.r) ηs) → sreg-hour-reads.Post ηs a r t

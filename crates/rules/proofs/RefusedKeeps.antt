@@ -11,8 +11,8 @@ use Rattle.whole.specs.Whole.{up, minus, inRange}
 use Rattle.whole.specs.Refused.{RefusedBare}
 use Rattle.whole.proofs.Choice.{by-test, kept-old}
 use Rattle.units.specs.Units.{kilowatts, millihertz, dollars, inKilowatts}
-use Rattle.units.specs.Limits.{isFrequency, isPattern}
-use Rattle.curve.specs.Curve.{curveAt}
+use Rattle.units.specs.Limits.{isPattern}
+use Rattle.curve.specs.Curve.{curveRefusal, curveAt}
 use Rattle.score.specs.Score.{secondRefusal, secondScore}
 use Rattle.rate.specs.Rolling.{scoresRefusal, hourlyRate}
 use Rattle.reached.specs.Reached.{verdictRefusal, hourReached}
@@ -52,8 +52,8 @@ refused : (rule : Rule) (n : List ℤ) (counted : Bool) (earlier t : List ℤ) �
     → ruleReply rule n counted earlier t ≡ zeros rule (ruleReply rule n counted earlier t .refusal)
 unfolding kilowattsReply curveReply scoreReply rateReply reachedReply bandsReply factorReply factorIn feeReply qualityReply energyReply lossReply pairReply inKilowatts curveAt secondScore hourlyRate hourReached factorAnswer feeAnswer qualityAnswer energyAnswer lossAnswer added bands.withFactor chargeOf noCharge
 refused Kilowatts n counted earlier t f = by-test (inRange (minus 100) (pos 100) (number n 0)) (λ e. absurd (f (rw e))) (λ e. rw e)
-refused Curve n counted earlier t f = by-test (isFrequency (number n 0)) (λ e. absurd (f (rw e))) (λ e. rw e)
-refused Score n counted earlier t f = by-test (eqb (secondRefusal (kilowatts (number n 0)) (kilowatts (number n 1)) (kilowatts (number n 2)) (millihertz (number n 3))) 0) (λ e. absurd (f (rw e))) (λ e. rw e)
+refused Curve n counted earlier t f = by-test (eqb (curveRefusal (millihertz (number n 0)) (millihertz (number n 1))) 0) (λ e. absurd (f (rw e))) (λ e. rw e)
+refused Score n counted earlier t f = by-test (eqb (secondRefusal (kilowatts (number n 0)) (kilowatts (number n 1)) (kilowatts (number n 2)) (millihertz (number n 3)) (millihertz (number n 4))) 0) (λ e. absurd (f (rw e))) (λ e. rw e)
 refused Rate n true earlier t f = by-test (eqb (scoresRefusal (scoresIn earlier) (scoresIn t)) 0) (λ e. absurd (f (rw e))) (λ e. rw e)
 refused Rate n false earlier t f = refl
 refused Reached n true earlier t f = by-test (eqb (verdictRefusal (scoresIn earlier) (scoresIn t) (byteOf (number n 0))) 0) (λ e. absurd (f (rw e))) (λ e. rw e)

@@ -31,14 +31,15 @@ use Rattle.words.specs.declared.Rule.the-variants.{Kilowatts, Curve, Score, Rat
 unfoldable pub kilowattsReply : List ℤ → Reply
 kilowattsReply n = let a = inKilowatts (megawatts (number n 0)) in reply (a .refusal) (a .power .0 ∷ [])
 
--- FREQUENCY: refusal, upper, lower
+-- FREQUENCY REFERENCE (document 02, #107): refusal, upper, lower
 unfoldable pub curveReply : List ℤ → Reply
-curveReply n = let a = curveAt (millihertz (number n 0)) in reply (a .refusal) (a .upper ∷ a .lower ∷ [])
+curveReply n = let a = curveAt (millihertz (number n 0)) (millihertz (number n 1)) in reply (a .refusal) (a .upper ∷ a .lower ∷ [])
 
--- POWER TRANSFER CAPACITY FREQUENCY: refusal, score
+-- POWER TRANSFER CAPACITY FREQUENCY REFERENCE (document 02, #107): refusal, score
 unfoldable pub scoreReply : List ℤ → Reply
 scoreReply n =
-    let a = secondScore (kilowatts (number n 0)) (kilowatts (number n 1)) (kilowatts (number n 2)) (millihertz (number n 3)) in reply (a .refusal) (pos (a .score) ∷ [])
+    let a = secondScore (kilowatts (number n 0)) (kilowatts (number n 1)) (kilowatts (number n 2)) (millihertz (number n 3)) (millihertz (number n 4)) in
+    reply (a .refusal) (pos (a .score) ∷ [])
 
 -- E, then E earlier scores, then 3,600 scores: refusal, rate (document 02, #102). An E outside 0 to 100 is refused with 1
 abbrev pub rateAsked : Bool → List ℤ → List ℤ → Rated

@@ -68,7 +68,7 @@ fn few(refusal: u8, count: usize, a: i64, b: i64, c: i64, d: i64) -> Few
 fn curve(head: [i64; 12]) -> Few
     ensures { λ r. ⌜ r ≡ boxed (curveReply head) ⌝ }
 {
-    let bounds = curve::curve(Millihertz(head[0]));
+    let bounds = curve::curve(Millihertz(head[0]), Millihertz(head[1]));
     few(bounds.refusal, 2, bounds.upper, bounds.lower, 0, 0)
 }
 
@@ -80,6 +80,7 @@ fn score(head: [i64; 12]) -> Few
         Kilowatts(head[1]),
         Kilowatts(head[2]),
         Millihertz(head[3]),
+        Millihertz(head[4]),
     );
     few(scored.refusal, 1, scored.score as i64, 0, 0, 0)
 }

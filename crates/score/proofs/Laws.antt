@@ -3,7 +3,6 @@
 use Prim.Native.Nat.{ℕ, _+_, _-_, _≤_, max}
 use mathlib.Core.Path.{_≡_, refl, sym, ap, _∙_}
 use mathlib.Core.Bool.{true, false}
-use mathlib.Core.List.{[], _∷_}
 use native.Mathlib.Omega.{arith}
 use lib.Dec.{eqb}
 use lib.IntN.{ℤ, _-ℤ_}
@@ -12,12 +11,11 @@ use borrow.Author.Tests.{eqb-true, eq-eqb}
 use Rattle.whole.specs.Whole.{up, down, inRange, apart}
 use Rattle.whole.proofs.Choice.{by-test, and-both, all-passed}
 use Rattle.whole.proofs.Signed.{signed, size, difference}
-use Rattle.units.specs.Refusals.{badCapacity, badTransfer, badReading}
-use Rattle.units.specs.Limits.{isCapacity, isPower, isFrequency, isTransfer, mostScore}
+use Rattle.units.specs.Limits.{isPower, isFrequency, mostScore}
 use Rattle.units.specs.declared.Kilowatts.{Kilowatts}
 use Rattle.units.specs.declared.Millihertz.{Millihertz}
-use Rattle.curve.specs.Curve.{upperAt, lowerAt}
-use Rattle.score.specs.Score.{percentOutput, scoreOf, isReading, secondRefusal, judgedBy, secondScore}
+use Rattle.curve.specs.Curve.{upperBy, lowerBy}
+use Rattle.score.specs.Score.{percentOutput, scoreOf, secondTests, secondRefusal, judgedBy, secondScore}
 use Rattle.score.specs.Accepted.{SecondFits}
 use Rattle.score.specs.declared.Scored.{Scored}
 
@@ -61,42 +59,42 @@ score-outside output upper lower order =
     let nearer : past lower output ≤ past upper output = omega signed in
     rw (e, not-past output upper g, apart-short output upper f, apart-short output lower e) (omega arith))
 
-module _ (power transfer capacity : Kilowatts) (frequency : Millihertz) where
-  pub second-fit : secondRefusal power transfer capacity frequency ≡ 0 → SecondFits power transfer capacity frequency
+module _ (power transfer capacity : Kilowatts) (frequency reference : Millihertz) where
+  pub second-fit : secondRefusal power transfer capacity frequency reference ≡ 0 → SecondFits power transfer capacity frequency reference
   unfolding secondRefusal
   second-fit e =
-      let p = all-passed ((isCapacity (capacity .0), badCapacity) ∷ (isTransfer (transfer .0), badTransfer) ∷ (isReading (power .0) (frequency .0), badReading) ∷ []) refl e in
-      let q = and-both (isPower (power .0)) (isFrequency (frequency .0)) (p .1 .1 .0) in
-      record { capacity = p .0; transfer = p .1 .0; power = q .0; frequency = q .1 }
+      let p = all-passed (secondTests power transfer capacity frequency reference) refl e in
+      let q = and-both (isPower (power .0)) (isFrequency (frequency .0)) (p .1 .1 .1 .0) in
+      record { capacity = p .0; reference = p .1 .0; transfer = p .1 .1 .0; power = q .0; frequency = q .1 }
 
-  pub fit-second : SecondFits power transfer capacity frequency → secondRefusal power transfer capacity frequency ≡ 0
+  pub fit-second : SecondFits power transfer capacity frequency reference → secondRefusal power transfer capacity frequency reference ≡ 0
   unfolding secondRefusal
-  fit-second f = rw (f .capacity, f .transfer, f .power, f .frequency)
+  fit-second f = rw (f .capacity, f .reference, f .transfer, f .power, f .frequency)
 
   -- a second that is let through, and one that is refused
-  pub second-granted : secondRefusal power transfer capacity frequency ≡ 0
-      → secondScore power transfer capacity frequency ≡ record { refusal = 0; score = judgedBy power transfer capacity frequency }
+  pub second-granted : secondRefusal power transfer capacity frequency reference ≡ 0
+      → secondScore power transfer capacity frequency reference ≡ record { refusal = 0; score = judgedBy power transfer capacity frequency reference }
   unfolding secondScore
   second-granted e = rw (eq-eqb _ 0 e)
 
-  pub second-refusal : secondScore power transfer capacity frequency .refusal ≡ secondRefusal power transfer capacity frequency
+  pub second-refusal : secondScore power transfer capacity frequency reference .refusal ≡ secondRefusal power transfer capacity frequency reference
   unfolding secondScore
   second-refusal =
-      let k = secondRefusal power transfer capacity frequency in
+      let k = secondRefusal power transfer capacity frequency reference in
       by-test (eqb k 0)
       (λ (t : eqb k 0 ≡ true). rw t (sym (eqb-true k 0 t)))
       (λ (t : eqb k 0 ≡ false). rw t)
 
-  pub score-is : secondScore power transfer capacity frequency .refusal ≡ 0
-      → secondScore power transfer capacity frequency .score
-      ≡ scoreOf (percentOutput (power .0) (transfer .0) (capacity .0)) (upperAt (frequency .0)) (lowerAt (frequency .0))
+  pub score-is : secondScore power transfer capacity frequency reference .refusal ≡ 0
+      → secondScore power transfer capacity frequency reference .score
+      ≡ scoreOf (percentOutput (power .0) (transfer .0) (capacity .0)) (upperBy (reference .0) (frequency .0)) (lowerBy (reference .0) (frequency .0))
   unfolding judgedBy
   score-is e = ap (λ (s : Scored). s .score) (second-granted (sym second-refusal ∙ e))
 
-  pub score-within : secondScore power transfer capacity frequency .score ≤ mostScore
+  pub score-within : secondScore power transfer capacity frequency reference .score ≤ mostScore
   unfolding secondScore judgedBy
   score-within =
-      let k = secondRefusal power transfer capacity frequency in
+      let k = secondRefusal power transfer capacity frequency reference in
       by-test (eqb k 0)
-      (λ (t : eqb k 0 ≡ true). rw t (score-most (percentOutput (power .0) (transfer .0) (capacity .0)) (upperAt (frequency .0)) (lowerAt (frequency .0))))
+      (λ (t : eqb k 0 ≡ true). rw t (score-most (percentOutput (power .0) (transfer .0) (capacity .0)) (upperBy (reference .0) (frequency .0)) (lowerBy (reference .0) (frequency .0))))
       (λ (t : eqb k 0 ≡ false). rw t (omega arith))

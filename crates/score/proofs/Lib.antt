@@ -3,5 +3,6 @@ pub mod Laws
 mod ByInverse
 pub mod Run
 pub mod Accepted
+pub mod Moved
 mod Determined
 mod RefusedKeeps

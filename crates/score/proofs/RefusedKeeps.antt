@@ -13,8 +13,8 @@ use Rattle.score.proofs.run_scores.Kinds as run-scores-kinds
 
 second-score-refused-keeps : RefusedBare 0 second-score-kinds.ps second-score-kinds.r (λ κs x. x .refusal) (λ κs a. noScore) second-score.Post
 unfolding secondScore
-second-score-refused-keeps κs (power, (transfer, (capacity, (frequency, end)))) x s p f =
-    refused-bare (λ (r : Scored). r .refusal) noScore (secondRefusal power transfer capacity frequency) _ refl refl p f
+second-score-refused-keeps κs (power, (transfer, (capacity, (frequency, (reference, end))))) x s p f =
+    refused-bare (λ (r : Scored). r .refusal) noScore (secondRefusal power transfer capacity frequency reference) _ refl refl p f
 
 run-scores-refused-keeps : RefusedKeeps 4 run-scores-kinds.ps run-scores-kinds.r (λ κs x. x) (λ κs a k. k) scoresRun scoresRun run-scores.Post
 unfolding runLeft

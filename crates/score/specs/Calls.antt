@@ -6,9 +6,10 @@ use lib.IntN.{ℤ}
 use contract.Lifetimes.{Lfts}
 use denote.Ref.{RefT, now}
 use Rattle.units.specs.declared.Kilowatts.{Kilowatts}
+use Rattle.units.specs.declared.Millihertz.{Millihertz}
 
 abbrev pub ScoresArguments : Type 0
-ScoresArguments = RefT (List ℤ) × (RefT (List ℤ) × (RefT (List ℤ) × (Kilowatts × (RefT (List ℕ) × Unit {0}))))
+ScoresArguments = RefT (List ℤ) × (RefT (List ℤ) × (RefT (List ℤ) × (Kilowatts × (Millihertz × (RefT (List ℕ) × Unit {0})))))
 
 abbrev pub scoresRun : Lfts 4 → ScoresArguments → List ℕ
-scoresRun κs (powers, (frequencies, (transfers, (capacity, (scores, end))))) = now scores
+scoresRun κs (powers, (frequencies, (transfers, (capacity, (reference, (scores, end)))))) = now scores

@@ -4,9 +4,11 @@ use mathlib.Core.Bool.{Bool, _&&_}
 use mathlib.Core.List.{List, [], _∷_}
 use lib.IntN.{ℤ, pos}
 use lib.ListN.{getD}
-use Rattle.whole.specs.Choice.{inOrder}
-use Rattle.units.specs.Refusals.{badReading, badTransfer}
-use Rattle.units.specs.Limits.{mostPower, arePowers, areFrequencies, mostTransfer, isTransfer, areTransfers}
+use Rattle.whole.specs.Choice.{unless, inOrder}
+use Rattle.units.specs.Refusals.{badCapacity, badReference, badReading, badTransfer}
+use Rattle.units.specs.Limits.{isCapacity, isReference, mostPower, arePowers, areFrequencies, mostTransfer, isTransfer, areTransfers}
+use Rattle.units.specs.declared.Kilowatts.{Kilowatts}
+use Rattle.units.specs.declared.Millihertz.{Millihertz}
 use Rattle.score.specs.Score.{isReading}
 
 -- what a division by twice d is made by, where many are: n / (2 d) is n times the inverse over 2^44 (proofs/ByInverse.antt)
@@ -23,6 +25,10 @@ leastByInverse = 32
 -- no percent output is larger: that of 1 kW
 abbrev pub mostOutput : ℕ
 mostOutput = (mostPower + mostTransfer) * 100
+
+-- 2, 19; then what the rest says
+unfoldable pub awardRefusal : Kilowatts → Millihertz → ℕ → ℕ
+awardRefusal capacity reference rest = unless (isCapacity (capacity .0)) badCapacity (unless (isReference (reference .0)) badReference rest)
 
 -- whether a second's transfer, power and frequency lie in their ranges; and the second at place i
 unfoldable pub secondFits : ℤ → ℤ → ℤ → Bool

@@ -2,5 +2,6 @@
 pub mod Score
 pub mod Run
 pub mod Accepted
+pub mod Moved
 pub mod Calls
 pub mod Inner

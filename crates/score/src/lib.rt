@@ -10,8 +10,10 @@ ghost use Rattle.whole.specs.Folds.{allTo};
 ghost use Rattle.whole.specs.Whole.{up, down, Within, Between, halfUp, nearest};
 ghost use Rattle.units.specs.Limits.{mostCapacity, mostPower, mostTransfer, mostScore};
 ghost use Rattle.curve.specs.Curve.{mostPercent, pairsOf};
+ghost use Rattle.curve.specs.Inner.{pastFirst};
+ghost use Rattle.curve.specs.Moved.{CurveFits};
 ghost use Rattle.score.specs.Score.{percentOutput, scoreOf, secondRefusal, judgedBy, secondScore};
-ghost use Rattle.score.specs.Inner.{mostOutput, leastByInverse, inverseOf, secondFits, fitAt, secondsRefusal};
+ghost use Rattle.score.specs.Inner.{mostOutput, leastByInverse, inverseOf, awardRefusal, secondFits, fitAt, secondsRefusal};
 ghost use Rattle.score.specs.Run.{runRefusal, runScores, runLeft};
 use units::Kilowatts;
 use units::Millihertz;
@@ -35,18 +37,19 @@ pub struct Scored {
     pub score: u8,
 }
 
-// The score of a second's power by the frequency of the second before.
+// The score of a second's power by the frequency of the second before, the curve's corners around a reference.
 pub fn second_score(
     power: Kilowatts,
     transfer: Kilowatts,
     capacity: Kilowatts,
     frequency: Millihertz,
+    reference: Millihertz,
 ) -> Scored
-    ensures { λ r. ⌜ r ≡ secondScore power transfer capacity frequency ⌝ }
+    ensures { λ r. ⌜ r ≡ secondScore power transfer capacity frequency reference ⌝ }
 {
-    let k = refusal(power, transfer, capacity, frequency);
+    let k = refusal(power, transfer, capacity, frequency, reference);
     if k == 0 {
-        let s = judged_by(power, transfer, capacity, frequency);
+        let s = judged_by(power, transfer, capacity, frequency, reference);
         return Scored {
             refusal: 0,
             score: s,
@@ -59,30 +62,43 @@ pub fn second_score(
 }
 
 // The scores of a run of seconds, each by its power, its planned transfer and the frequency of the second before, all
-// at one place. A refused run stays as it was.
+// at one place, and by one reference. A refused run stays as it was.
 pub fn run_scores(
     powers: &[i64],
     frequencies: &[i64],
     transfers: &[i64],
     capacity: Kilowatts,
+    reference: Millihertz,
     scores: &mut [u8],
 ) -> u8
-    ensures { λ r. ⌜ (r ≡ runRefusal (now (powers .entry)) (now (frequencies .entry)) (now (transfers .entry)) capacity (length (now (scores .entry)))) × (now (scores .exit) ≡ runLeft (now (powers .entry)) (now (frequencies .entry)) (now (transfers .entry)) capacity (now (scores .entry))) ⌝ }
+    ensures { λ r. ⌜ (r ≡ runRefusal (now (powers .entry)) (now (frequencies .entry)) (now (transfers .entry)) capacity reference (length (now (scores .entry)))) × (now (scores .exit) ≡ runLeft (now (powers .entry)) (now (frequencies .entry)) (now (transfers .entry)) capacity reference (now (scores .entry))) ⌝ }
 {
-    let number = run_refusal(powers, frequencies, transfers, capacity, scores.len());
+    let number = run_refusal(
+        powers,
+        frequencies,
+        transfers,
+        capacity,
+        reference,
+        scores.len(),
+    );
     if number == 0 {
-        fill(powers, frequencies, transfers, capacity, scores);
+        fill(powers, frequencies, transfers, capacity, reference, scores);
     }
     number
 }
 
-// 2, 10, 4; 0 lets the second through.
-fn refusal(power: Kilowatts, transfer: Kilowatts, capacity: Kilowatts, frequency: Millihertz) -> u8
-    ensures { λ r. ⌜ r ≡ secondRefusal power transfer capacity frequency ⌝ }
+// 2, 19, 10, 4; 0 lets the second through.
+fn refusal(
+    power: Kilowatts,
+    transfer: Kilowatts,
+    capacity: Kilowatts,
+    frequency: Millihertz,
+    reference: Millihertz,
+) -> u8
+    ensures { λ r. ⌜ r ≡ secondRefusal power transfer capacity frequency reference ⌝ }
 {
     let p = power.0;
     let t = transfer.0;
-    let c = capacity.0;
     let f = frequency.0;
     let reading = whole::within(p, LEAST_POWER, limits::POWER)
         & whole::within(f, limits::LEAST_FREQUENCY, limits::MOST_FREQUENCY);
@@ -92,10 +108,24 @@ fn refusal(power: Kilowatts, transfer: Kilowatts, capacity: Kilowatts, frequency
         refusals::BAD_TRANSFER,
         readings,
     );
+    award_refusal(capacity, reference, transfers)
+}
+
+// 2, 19; then what the rest says.
+fn award_refusal(capacity: Kilowatts, reference: Millihertz, rest: u8) -> u8
+    ensures { λ r. ⌜ r ≡ awardRefusal capacity reference rest ⌝ }
+{
+    let c = capacity.0;
+    let around = reference.0;
+    let moved = whole::unless(
+        whole::within(around, limits::LEAST_REFERENCE, limits::MOST_REFERENCE),
+        refusals::BAD_REFERENCE,
+        rest,
+    );
     whole::unless(
         whole::within(c, 1, limits::CAPACITY),
         refusals::BAD_CAPACITY,
-        transfers,
+        moved,
     )
 }
 
@@ -105,11 +135,12 @@ fn judged_by(
     transfer: Kilowatts,
     capacity: Kilowatts,
     frequency: Millihertz,
+    reference: Millihertz,
 ) -> u8
-    requires { ⌜ secondRefusal power transfer capacity frequency ≡ 0 ⌝ }
-    ensures { λ r. ⌜ r ≡ judgedBy power transfer capacity frequency ⌝ }
+    requires { ⌜ secondRefusal power transfer capacity frequency reference ≡ 0 ⌝ }
+    ensures { λ r. ⌜ r ≡ judgedBy power transfer capacity frequency reference ⌝ }
 {
-    let bounds = curve::curve(frequency);
+    let bounds = curve::curve(frequency, reference);
     let upper = bounds.upper;
     let lower = bounds.lower;
     by_bounds(power, transfer, capacity, inverse(capacity), upper, lower)
@@ -205,25 +236,21 @@ fn inverse(capacity: Kilowatts) -> u64
     SCALE / (2 * whole::size(c)) + 1
 }
 
-// 1, 2, 10, 4; 0 lets the run through.
+// 1, 2, 19, 10, 4; 0 lets the run through.
 fn run_refusal(
     powers: &[i64],
     frequencies: &[i64],
     transfers: &[i64],
     capacity: Kilowatts,
+    reference: Millihertz,
     places: usize,
 ) -> u8
-    ensures { λ r. ⌜ r ≡ runRefusal (now (powers .entry)) (now (frequencies .entry)) (now (transfers .entry)) capacity places ⌝ }
+    ensures { λ r. ⌜ r ≡ runRefusal (now (powers .entry)) (now (frequencies .entry)) (now (transfers .entry)) capacity reference places ⌝ }
 {
     let n = powers.len();
-    let size = capacity.0;
     if (frequencies.len() == n) & (transfers.len() == n) & (places == n) {
         let seconds = seconds_refusal(powers, frequencies, transfers);
-        return whole::unless(
-            whole::within(size, 1, limits::CAPACITY),
-            refusals::BAD_CAPACITY,
-            seconds,
-        );
+        return award_refusal(capacity, reference, seconds);
     }
     refusals::WRONG_LENGTH
 }
@@ -272,10 +299,11 @@ fn fill(
     frequencies: &[i64],
     transfers: &[i64],
     capacity: Kilowatts,
+    reference: Millihertz,
     scores: &mut [u8],
 )
-    requires { ⌜ runRefusal (now powers) (now frequencies) (now transfers) capacity (length (now scores)) ≡ 0 ⌝ }
-    ensures { λ r. ⌜ now (scores .exit) ≡ runScores (now (powers .entry)) (now (frequencies .entry)) (now (transfers .entry)) capacity ⌝ }
+    requires { ⌜ runRefusal (now powers) (now frequencies) (now transfers) capacity reference (length (now scores)) ≡ 0 ⌝ }
+    ensures { λ r. ⌜ now (scores .exit) ≡ runScores (now (powers .entry)) (now (frequencies .entry)) (now (transfers .entry)) capacity reference ⌝ }
 {
     let pairs = curve::pairs();
     fill_by(
@@ -285,6 +313,7 @@ fn fill(
         transfers,
         capacity,
         inverse(capacity),
+        reference,
         scores,
     );
 }
@@ -296,12 +325,13 @@ fn fill_by(
     transfers: &[i64],
     capacity: Kilowatts,
     inverse: u64,
+    reference: Millihertz,
     scores: &mut [u8],
 )
     requires { ⌜ inverse ≡ inverseOf (natAbs (capacity .0)) ⌝ }
     requires { ⌜ now pairs ≡ pairsOf ⌝ }
-    requires { ⌜ runRefusal (now powers) (now frequencies) (now transfers) capacity (length (now scores)) ≡ 0 ⌝ }
-    ensures { λ r. ⌜ now (scores .exit) ≡ runScores (now (powers .entry)) (now (frequencies .entry)) (now (transfers .entry)) capacity ⌝ }
+    requires { ⌜ runRefusal (now powers) (now frequencies) (now transfers) capacity reference (length (now scores)) ≡ 0 ⌝ }
+    ensures { λ r. ⌜ now (scores .exit) ≡ runScores (now (powers .entry)) (now (frequencies .entry)) (now (transfers .entry)) capacity reference ⌝ }
 {
     let mut i = 0;
     while i < powers.len() {
@@ -315,6 +345,7 @@ fn fill_by(
             capacity,
             inverse,
             Millihertz(frequency),
+            reference,
         );
         scores[i] = s;
         i += 1;
@@ -329,14 +360,26 @@ fn judged_in(
     capacity: Kilowatts,
     inverse: u64,
     frequency: Millihertz,
+    reference: Millihertz,
 ) -> u8
     requires { ⌜ inverse ≡ inverseOf (natAbs (capacity .0)) ⌝ }
     requires { ⌜ now pairs ≡ pairsOf ⌝ }
-    requires { ⌜ secondRefusal power transfer capacity frequency ≡ 0 ⌝ }
-    ensures { λ r. ⌜ r ≡ judgedBy power transfer capacity frequency ⌝ }
+    requires { ⌜ secondRefusal power transfer capacity frequency reference ≡ 0 ⌝ }
+    ensures { λ r. ⌜ r ≡ judgedBy power transfer capacity frequency reference ⌝ }
 {
-    let k = 2 * curve::place(frequency);
+    let k = 2 * curve::place(past_first(frequency, reference));
     let upper = pairs[k] as i64;
     let lower = pairs[k + 1] as i64;
     by_bounds(power, transfer, capacity, inverse, upper, lower)
+}
+
+// How far a frequency lies past the first corner around a reference.
+fn past_first(frequency: Millihertz, reference: Millihertz) -> i64
+    requires { ⌜ CurveFits frequency reference ⌝ }
+    ensures { λ r. ⌜ r ≡ pastFirst (reference .0) (frequency .0) ⌝ }
+{
+    let f = frequency.0;
+    let around = reference.0;
+    let first = around - curve::REACH;
+    f - first
 }

@@ -18,9 +18,11 @@ use Rattle.units.specs.Units.{dollars}
 use Rattle.rate.specs.Rolling.{areScores}
 use Rattle.fees.specs.Fees.{mostHourAmount}
 use Rattle.fees.proofs.Laws.{amount-within}
+use Rattle.curve.specs.Moved.{unmoved}
+use Rattle.curve.proofs.Moved.{unmoved-fits}
 use Rattle.hour.specs.Hour.{WholeHour, dRegHour, readingsFit, termsRefusal, grantedHour, settledOf, refusedHour, settledAt}
 use Rattle.hour.specs.Accepted.{HourFits}
-use Rattle.hour.proofs.Laws.{ofTerms, at-fits, terms-fit, long-of, TermsFit}
+use Rattle.hour.proofs.Laws.{at-fits, terms-fit, long-of, TermsFit}
 use Rattle.sreg.specs.Second.{isState}
 use Rattle.sreg.specs.Run.{sRegScoresRefusal}
 use Rattle.sreg.proofs.Seconds.{length-scores}
@@ -29,9 +31,9 @@ use Rattle.sreg_hour.specs.Accepted.{SRegFits}
 use Rattle.sreg_hour.specs.Inner.{sRegWorkedRefusal, sRegWorked, sRegWorkedLeft}
 use Rattle.sreg_hour.specs.declared.Settled.{Settled}
 
--- what a dReg hour would be handed
+-- what a dReg hour would be handed, with the reference where it is
 abbrev pub unshifted : SRegHour → WholeHour
-unshifted h = dRegHour (h .powers) (h .frequencies) (h .terms) (h .thresholds) (h .factors) (h .earlier)
+unshifted h = dRegHour (h .powers) (h .frequencies) (h .terms) unmoved (h .thresholds) (h .factors) (h .earlier)
 
 -- ---- the tests
 
@@ -40,28 +42,32 @@ pub fit : (h : SRegHour) (places : ℕ) → sRegRefusal h places ≡ 0 → SRegF
 unfolding sRegRefusal
 fit h places e =
     let p = all-passed (sRegTermsTests h places ++ stateTests h) refl e in
-    let prices = and-both (isPrice (h .terms .clearing) && isPrice (h .terms .performance)) true (p .1 .1 .0) in
-    let last = and-both (areScores (h .earlier)) (isState (h .state) && readingsFit (h .powers) (h .frequencies)) (p .1 .1 .1 .1 .1 .0) in
+    let prices = and-both (isPrice (h .terms .clearing) && isPrice (h .terms .performance)) true (p .1 .1 .1 .0) in
+    let last = and-both (areScores (h .earlier)) (isState (h .state) && readingsFit (h .powers) (h .frequencies)) (p .1 .1 .1 .1 .1 .1 .0) in
     let read = and-both (isState (h .state)) (readingsFit (h .powers) (h .frequencies)) (last .1) in
-    record { lengths = p .0; capacity = p .1 .0; prices = prices .0; bands = p .1 .1 .1 .0; before = last .0; state = read .0; readings = read .1 }
+    record { lengths = p .0; capacity = p .1 .0; prices = prices .0; bands = p .1 .1 .1 .1 .0; before = last .0; state = read .0; readings = read .1 }
 
 -- and an hour that fits is not refused
 pub fit-none : (h : SRegHour) (places : ℕ) → SRegFits h places → sRegRefusal h places ≡ 0
 unfolding sRegRefusal
 fit-none h places f =
     passed-all (sRegTermsTests h places ++ stateTests h)
-    (f .lengths, (f .capacity, (both (f .prices) refl, (f .bands, (refl, (both (f .before) (both (f .state) (f .readings)), tt))))))
+    (f .lengths, (f .capacity, (refl, (both (f .prices) refl, (f .bands, (refl, (both (f .before) (both (f .state) (f .readings)), tt)))))))
 
 -- what fits an sReg hour fits a dReg one
 pub fits-unshifted : {h : SRegHour} {places : ℕ} → SRegFits h places → HourFits (unshifted h) places
 fits-unshifted f =
-    record { lengths = f .lengths; capacity = f .capacity; prices = both (f .prices) refl; bands = f .bands; targets = refl; readings = both (f .before) (f .readings) }
+    record { lengths = f .lengths; capacity = f .capacity; reference = unmoved-fits; prices = both (f .prices) refl; bands = f .bands; targets = refl; readings = both (f .before) (f .readings) }
 
 -- ---- the core, where the terms are let through
 
 module _ (h : SRegHour) (places : ℕ) where
   abbrev pub terms : ℕ
-  terms = ofTerms (unshifted h) places
+  terms = termsRefusal (length (h .powers)) (length (h .frequencies)) (length (h .earlier)) places (h .terms) true (h .thresholds) (h .factors) true true
+
+  terms-let : terms ≡ 0 → TermsFit (unshifted h) places
+  unfolding termsRefusal
+  terms-let none = terms-fit (unshifted h) places (rw unmoved-fits none)
 
   tests-last : sRegRefusal h places ≡ orElse terms (inOrder (stateTests h))
   unfolding sRegRefusal termsRefusal
@@ -78,7 +84,7 @@ module _ (h : SRegHour) (places : ℕ) where
   worked-number : terms ≡ 0 → sRegWorkedRefusal h places ≡ sRegRefusal h places
   unfolding sRegWorkedRefusal
   worked-number none =
-      rw (tests-last, none, scores-refusal (terms-fit (unshifted h) places none))
+      rw (tests-last, none, scores-refusal (terms-let none))
       (by-test (areScores (h .earlier)) (λ (t : areScores (h .earlier) ≡ true). rw t) (λ (t : areScores (h .earlier) ≡ false). rw t))
 
   -- and settling by the rate refuses nothing

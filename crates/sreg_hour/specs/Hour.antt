@@ -35,10 +35,10 @@ sRegHour powers frequencies terms thresholds factors earlier state =
 
 -- ---- the refusals: 1, 2, 3, 5, 4
 
--- dReg's, which shifts nothing: 1, 2, 3, 5
+-- dReg's, which shifts nothing, with no reference to be moved: 1, 2, 3, 5
 abbrev pub sRegTermsTests : SRegHour → ℕ → List (Bool × ℕ)
 sRegTermsTests h places =
-    termsTests (lengthsFit (length (h .powers)) (length (h .frequencies)) (length (h .earlier)) places) (h .terms) (h .thresholds) (h .factors) true true
+    termsTests (lengthsFit (length (h .powers)) (length (h .frequencies)) (length (h .earlier)) places) (h .terms) true (h .thresholds) (h .factors) true true
 
 -- "4 also for a handed-in state that no hour can end in"; the earlier scores and the readings as for dReg
 abbrev pub stateTests : SRegHour → List (Bool × ℕ)

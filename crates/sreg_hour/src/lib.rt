@@ -38,6 +38,7 @@ pub fn sreg_hour(
         earlier.len(),
         scores.len(),
         terms,
+        true,
         thresholds,
         factors,
         true,
@@ -80,7 +81,7 @@ fn worked(
     state: EventState,
     scores: &mut [u8],
 ) -> Settled
-    requires { ⌜ termsRefusal (length (now powers)) (length (now frequencies)) (length (now earlier)) (length (now scores)) terms (now thresholds) (now factors) true true ≡ 0 ⌝ }
+    requires { ⌜ termsRefusal (length (now powers)) (length (now frequencies)) (length (now earlier)) (length (now scores)) terms true (now thresholds) (now factors) true true ≡ 0 ⌝ }
     ensures answers { λ r. ⌜ r ≡ sRegWorked (sRegHour (now (powers .entry)) (now (frequencies .entry)) terms (now (thresholds .entry)) (now (factors .entry)) (now (earlier .entry)) state) (length (now (scores .entry))) ⌝ }
     ensures leaves { λ r. ⌜ now (scores .exit) ≡ sRegWorkedLeft (sRegHour (now (powers .entry)) (now (frequencies .entry)) terms (now (thresholds .entry)) (now (factors .entry)) (now (earlier .entry)) state) (now (scores .entry)) ⌝ }
 {

@@ -38,6 +38,19 @@ isFrequency = inRange (pos leastFrequency) (pos mostFrequency)
 abbrev pub areFrequencies : List ℤ → Bool
 areFrequencies = allInRange (pos leastFrequency) (pos mostFrequency)
 
+-- the reference frequency of document 01's curve; and of a moved one, "59,500 to 60,500 mHz" (document 02, #107)
+abbrev pub nominal : ℕ
+nominal = 60000
+
+abbrev pub leastReference : ℕ
+leastReference = 59500
+
+abbrev pub mostReference : ℕ
+mostReference = 60500
+
+abbrev pub isReference : ℤ → Bool
+isReference = inRange (pos leastReference) (pos mostReference)
+
 -- "a transfer target outside -100,000 to 100,000 kW": a target, and a second's transfer
 abbrev pub mostTransfer : ℕ
 mostTransfer = 100000

@@ -74,6 +74,10 @@ notFinite = 17
 abbrev pub wrongSecond : ℕ
 wrongSecond = 18
 
+-- a reference outside 59,500 to 60,500 (document 02, #107)
+abbrev pub badReference : ℕ
+badReference = 19
+
 -- a handed-in ledger that no run of calls from a fresh month hands back
 abbrev pub notReachable : ℕ
 notReachable = 22

@@ -7,6 +7,12 @@ pub const LEAST_FREQUENCY: i64 = 55_000;
 
 pub const MOST_FREQUENCY: i64 = 65_000;
 
+pub const NOMINAL: i64 = 60_000;
+
+pub const LEAST_REFERENCE: i64 = 59_500;
+
+pub const MOST_REFERENCE: i64 = 60_500;
+
 pub const TRANSFER: i64 = 100_000;
 
 pub const AWARD: i64 = 100;

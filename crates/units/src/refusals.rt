@@ -35,4 +35,6 @@ pub const NOT_FINITE: u8 = 17;
 
 pub const WRONG_SECOND: u8 = 18;
 
+pub const BAD_REFERENCE: u8 = 19;
+
 pub const NOT_REACHABLE: u8 = 22;

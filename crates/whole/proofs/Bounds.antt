@@ -14,10 +14,10 @@ use Rattle.whole.proofs.Signed.{inside, leZ-holds}
 pub to-within : {k : ℕ} {z : ℤ} → Between (pos 0) (pos k) z → Within k z
 to-within b = omega arith
 
--- from 0 to k, by a test
-pub from-zero : (k : ℕ) (z : ℤ) → Between (pos 0) (pos k) z → inRange (pos 0) (pos k) z ≡ true
+-- a range, by a test
+pub in-range : {low high z : ℤ} → Between low high z → inRange low high z ≡ true
 unfolding inRange
-from-zero k z b = both (leZ-holds (pos 0) z (omega arith)) (leZ-holds z (pos k) (omega arith))
+in-range {low} {high} {z} b = both (leZ-holds low z (omega arith)) (leZ-holds z high (omega arith))
 
 pub product-between : {a b : ℕ} (x y : ℤ) → Between (pos 0) (pos a) x → Between (pos 0) (pos b) y → Between (pos 0) (pos (a * b)) (x *ℤ y)
 product-between {a} {b} (pos m) (pos n) p q =

@@ -8,7 +8,7 @@ use Rattle.hour.proofs.hour.Statement.{statement}
 use Rattle.hour.proofs.hour.Tie as tie
 
 abbrev hour : tie.Start → WholeHour
-hour s = let a = s .args in eDRegHour (a .powers .now) (a .frequencies .now) (a .terms) (a .shift) (a .thresholds .now) (a .factors .now) (a .earlier .now)
+hour s = let a = s .args in eDRegHour (a .powers .now) (a .frequencies .now) (a .terms) (a .reference) (a .shift) (a .thresholds .now) (a .factors .now) (a .earlier .now)
 
 shift-refusal-requires : tie.Need-shift-refusal-requires
 shift-refusal-requires c κs = search needs

@@ -12,22 +12,27 @@ prices-fit-requires c κs = search needs
 all-within-requires : tie.Need-all-within-requires
 all-within-requires c κs = search needs
 
+reference-fits-requires : tie.Need-reference-fits-requires
+reference-fits-requires c κs = search needs
+
 terms-refusal-requires : tie.Need-terms-refusal-requires
 terms-refusal-requires c κs = search needs
 
-discharge-fits : (c : tie.After-struct-told2) → SFits w64 (c .before .before .args .t6 .discharge)
+discharge-fits : (c : tie.After-struct-told2) → SFits w64 (c .before .before .args .t7 .discharge)
 discharge-fits c = search needs
 
-charge-fits : (c : tie.After-struct-told2) → SFits w64 (c .before .before .args .t6 .charge)
+charge-fits : (c : tie.After-struct-told2) → SFits w64 (c .before .before .args .t7 .charge)
 charge-fits c = search needs
 
 returns : tie.Need-returns
 returns c =
-    let planned = c .before in
+    let moved = c .before in
+    let planned = moved .before in
     let priced = planned .before .before .before .before in
     let s = priced .before in
-    rw (rw (toZ-ofZ (discharge-fits s), toZ-ofZ (charge-fits s)) at (priced .prices-fit .ensures), planned .all-within .ensures) at (c .terms-refusal .ensures)
+    rw (rw (toZ-ofZ (discharge-fits s), toZ-ofZ (charge-fits s)) at (priced .prices-fit .ensures), planned .all-within .ensures, moved .reference-fits .ensures) at (c .terms-refusal .ensures)
 
 pub shift-refusal-spec : {M : Type 1} → statement M
 shift-refusal-spec =
-    tie.close (tie.spec prices-fit-requires all-within-requires terms-refusal-requires returns)
+    tie.close
+    (tie.spec prices-fit-requires all-within-requires reference-fits-requires terms-refusal-requires returns)

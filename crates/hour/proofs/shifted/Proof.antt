@@ -35,17 +35,17 @@ same-length : tie.Need-same-length
 same-length c = search needs
 
 -- the plan, and the energy service fee
-planned : (c : tie.After-plan) → c .plan .last .1 .0 ≡ planOf (c .before .before .before .before .before .before .before .args .t4 .targets)
+planned : (c : tie.After-plan) → c .plan .last .1 .0 ≡ planOf (c .before .before .before .before .before .before .before .args .t5 .targets)
 planned c =
     let s = c .before .before .before .before .before .before .before in
-    let t = s .args .t4 .targets in
+    let t = s .args .t5 .targets in
     let five : length t ≡ 5 = search needs in
     c .plan .ensures .1 ∙ plan-granted t (replicate secondsOfHour (pos 0)) (record { five = five; long = refl; inside = s .pre })
 
-discharge-fits : (c : tie.After-struct-told2) → SFits w64 (c .before .before .before .before .before .before .before .before .before .before .args .t4 .discharge)
+discharge-fits : (c : tie.After-struct-told2) → SFits w64 (c .before .before .before .before .before .before .before .before .before .before .args .t5 .discharge)
 discharge-fits c = search needs
 
-charge-fits : (c : tie.After-struct-told2) → SFits w64 (c .before .before .before .before .before .before .before .before .before .before .args .t4 .charge)
+charge-fits : (c : tie.After-struct-told2) → SFits w64 (c .before .before .before .before .before .before .before .before .before .before .args .t5 .charge)
 charge-fits c = search needs
 
 returns : tie.Need-returns
@@ -55,9 +55,9 @@ returns c =
     let t = e .before .before .before .before in
     let p = t .before .before .before in
     let a = p .before .before .before .before .before .before .before .args in
-    let energy : e .energy-of .result ≡ energyOf (a .powers .now) (eDReg (a .t4)) = rw (toZ-ofZ (discharge-fits t), toZ-ofZ (charge-fits t)) at (e .energy-of .ensures) in (
-      w .worked .ensures .0 ∙ (λ i. workedOf (a .powers .now) (a .frequencies .now) (planned p i) (a .terms) (a .thresholds .now) (a .factors .now) (a .earlier .now) (energy i) (length (a .scores .now))),
-      w .worked .ensures .1 ∙ ap (λ (plan : List ℤ). workedLeft (a .powers .now) (a .frequencies .now) plan (a .terms .capacity) (a .earlier .now) (a .scores .now)) (planned p),
+    let energy : e .energy-of .result ≡ energyOf (a .powers .now) (eDReg (a .t5)) = rw (toZ-ofZ (discharge-fits t), toZ-ofZ (charge-fits t)) at (e .energy-of .ensures) in (
+      w .worked .ensures .0 ∙ (λ i. workedOf (a .powers .now) (a .frequencies .now) (planned p i) (a .terms) (a .reference) (a .thresholds .now) (a .factors .now) (a .earlier .now) (energy i) (length (a .scores .now))),
+      w .worked .ensures .1 ∙ ap (λ (plan : List ℤ). workedLeft (a .powers .now) (a .frequencies .now) plan (a .terms .capacity) (a .reference) (a .earlier .now) (a .scores .now)) (planned p),
     )
 
 pub shifted-spec : {M : Type 1} → statement M

@@ -23,17 +23,20 @@ prices-fit-requires c κs = search needs
 unless-requires-3 : tie.Need-unless-requires-3
 unless-requires-3 c κs = search needs
 
+unless-requires-4 : tie.Need-unless-requires-4
+unless-requires-4 c κs = search needs
+
 capacity-fits-requires : tie.Need-capacity-fits-requires
 capacity-fits-requires c κs = search needs
 
-unless-requires-4 : tie.Need-unless-requires-4
-unless-requires-4 c κs = search needs
+unless-requires-5 : tie.Need-unless-requires-5
+unless-requires-5 c κs = search needs
 
 lengths-fit-requires : tie.Need-lengths-fit-requires
 lengths-fit-requires c κs = search needs
 
-unless-requires-5 : tie.Need-unless-requires-5
-unless-requires-5 c κs = search needs
+unless-requires-6 : tie.Need-unless-requires-6
+unless-requires-6 c κs = search needs
 
 clearing-fits : (c : tie.After-struct-told2) → SFits w64 (c .before .before .before .before .before .args .terms .clearing)
 clearing-fits c = search needs
@@ -46,15 +49,17 @@ unfolding termsRefusal
 returns c =
     let lengths = c .before in
     let size = lengths .before .before in
-    let prices = size .before .before in
+    let moved = size .before in
+    let prices = moved .before .before in
     let bands = prices .before .before .before in
     let check = bands .before in
     let a = check .before .before .args in
     simp (
       lengths .lengths-fit .ensures,
-      lengths .before .unless4 .ensures,
+      lengths .before .unless5 .ensures,
       size .capacity-fits .ensures,
-      size .before .unless3 .ensures,
+      moved .unless4 .ensures,
+      moved .before .unless3 .ensures,
       prices .prices-fit .ensures,
       bands .unless2 .ensures,
       check .check .ensures,
@@ -62,7 +67,7 @@ returns c =
       check .before .unless .ensures,
       toZ-ofZ (clearing-fits (prices .before)),
       toZ-ofZ (performance-fits (prices .before)),
-    ) at (c .unless5 .ensures)
+    ) at (c .unless6 .ensures)
 
 pub terms-refusal-spec : {M : Type 1} → statement M
 terms-refusal-spec =
@@ -73,8 +78,9 @@ terms-refusal-spec =
     unless-requires-2
     prices-fit-requires
     unless-requires-3
-    capacity-fits-requires
     unless-requires-4
-    lengths-fit-requires
+    capacity-fits-requires
     unless-requires-5
+    lengths-fit-requires
+    unless-requires-6
     returns)

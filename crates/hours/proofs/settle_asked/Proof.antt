@@ -4,7 +4,7 @@ use mathlib.Core.Bool.{true, false}
 use lib.ListN.{length, drop}
 use borrow.Author.Tests.{not-true, not-false}
 use borrow.Author.Needs.{needs}
-use Rattle.hours.specs.Hours.{termsOf, shiftOf, countsFit, stateNumbers, stateHanded, stateless}
+use Rattle.hours.specs.Hours.{termsOf, referenceOf, shiftOf, countsFit, stateNumbers, stateHanded, stateless}
 use Rattle.hours.proofs.HourLaws.{is-counted, ended-none, left-none}
 use Rattle.hours.proofs.settle_asked.Statement.{statement}
 use Rattle.hours.proofs.settle_asked.Tie as tie
@@ -28,15 +28,19 @@ returns c =
     let a = n .before .before .args in
     let seconds = drop (stateNumbers (a .hour)) (a .readings .now) in
     let e : countsFit (length (a .bands .now)) (a .counted) (length seconds) ≡ false = rw (n .before .seconds-in .ensures) at (sym (n .counts-fit .ensures) ∙ not-true _ (t .if1 .taken)) in
-    let terms = termsOf (a .terms) in
+    let terms = termsOf (a .hour) (a .terms) in
+    let reference = referenceOf (a .hour) (a .terms) in
     let shift = shiftOf (a .terms) in
     let state = stateHanded (a .hour) (a .readings .now) in (
-      c .stateless .ensures ∙ ap stateless (c .before .refused-hour .ensures) ∙ ended-none (a .hour) terms shift state (a .bands .now) (a .counted) (a .earlier .now) seconds e,
-      left-none (a .hour) terms shift state (a .bands .now) (a .counted) (a .earlier .now) seconds e (a .scores .now),
+      c .stateless .ensures ∙ ap stateless (c .before .refused-hour .ensures) ∙ ended-none (a .hour) terms reference shift state (a .bands .now) (a .counted) (a .earlier .now) seconds e,
+      left-none (a .hour) terms reference shift state (a .bands .now) (a .counted) (a .earlier .now) seconds e (a .scores .now),
     )
 
 terms-of-requires : tie.Need-terms-of-requires
 terms-of-requires c κs = search needs
+
+reference-of-requires : tie.Need-reference-of-requires
+reference-of-requires c κs = search needs
 
 shift-of-requires : tie.Need-shift-of-requires
 shift-of-requires c κs = search needs
@@ -52,14 +56,14 @@ counted : (c : tie.Else1) → c .before .before .before .args .counted ≡ true
 counted c = let n = c .before in let a = n .before .before .args in is-counted (length (a .bands .now)) (length (n .before .seconds-in .result .now)) (a .counted) (counts c)
 
 settle-by-requires : tie.Need-settle-by-requires
-settle-by-requires c κs = let e = c .before .before .before .before in rw (counted e) at (counts e)
+settle-by-requires c κs = let e = c .before .before .before .before .before in rw (counted e) at (counts e)
 
 returns-2 : tie.Need-returns-2
 returns-2 c =
     let i = c .before .before in
-    let e = i .before .before .before in
+    let e = i .before .before .before .before in
     rw (counted e)
-    (rw (i .state-in .ensures, i .before .shift-of .ensures, i .before .before .terms-of .ensures, e .before .before .seconds-in .ensures) at (c .settle-by .ensures))
+    (rw (i .state-in .ensures, i .before .shift-of .ensures, i .before .before .reference-of .ensures, i .before .before .before .terms-of .ensures, e .before .before .seconds-in .ensures) at (c .settle-by .ensures))
 
 pub settle-asked-spec : {M : Type 1} → statement M
 settle-asked-spec =
@@ -71,6 +75,7 @@ settle-asked-spec =
     stateless-requires
     returns
     terms-of-requires
+    reference-of-requires
     shift-of-requires
     state-in-requires
     settle-by-requires

@@ -66,8 +66,8 @@ returns c =
     let bands = a .bands .now in
     let t = thresholds p .is ∙ ap (column bands 0) (p .pairs-in .ensures .0) in
     let g = factors p .is ∙ ap (column bands 1) (p .pairs-in .ensures .0) in (
-      h .settle-kind .ensures .0 ∙ ap₂ (λ (t g : List ℤ). endedBy (a .hour) (a .state) (hourFrom (a .powers .now) (a .frequencies .now) (a .terms) (serviceOf (a .hour) (a .shift)) t g (taken (a .before))) (length (a .scores .now))) t g,
-      h .settle-kind .ensures .1 ∙ ap₂ (λ (t g : List ℤ). leftBy (a .hour) (a .state) (hourFrom (a .powers .now) (a .frequencies .now) (a .terms) (serviceOf (a .hour) (a .shift)) t g (taken (a .before))) (a .scores .now)) t g,
+      h .settle-kind .ensures .0 ∙ ap₂ (λ (t g : List ℤ). endedBy (a .hour) (a .state) (hourFrom (a .powers .now) (a .frequencies .now) (a .terms) (a .reference) (serviceOf (a .hour) (a .shift)) t g (taken (a .before))) (length (a .scores .now))) t g,
+      h .settle-kind .ensures .1 ∙ ap₂ (λ (t g : List ℤ). leftBy (a .hour) (a .state) (hourFrom (a .powers .now) (a .frequencies .now) (a .terms) (a .reference) (serviceOf (a .hour) (a .shift)) t g (taken (a .before))) (a .scores .now)) t g,
     )
 
 pub settle-bands-spec : {M : Type 1} → statement M

@@ -43,9 +43,9 @@ returns c =
     let s = x .before .before in
     let a = s .args in (
       c .settle-bands .ensures .0
-          ∙ ended-is (a .hour) (a .terms) (a .shift) (a .state) (a .bands .now) (a .earlier .now) (a .readings .now) _ _ _ (a .scores .now) (x .column .ensures) (y .column2 .ensures) (b .first-four .ensures) (long (c .before)) (s .pre),
+          ∙ ended-is (a .hour) (a .terms) (a .reference) (a .shift) (a .state) (a .bands .now) (a .earlier .now) (a .readings .now) _ _ _ (a .scores .now) (x .column .ensures) (y .column2 .ensures) (b .first-four .ensures) (long (c .before)) (s .pre),
       c .settle-bands .ensures .1
-          ∙ left-is (a .hour) (a .terms) (a .shift) (a .state) (a .bands .now) (a .earlier .now) (a .readings .now) _ _ _ (a .scores .now) (x .column .ensures) (y .column2 .ensures) (b .first-four .ensures) (long (c .before)) (s .pre),
+          ∙ left-is (a .hour) (a .terms) (a .reference) (a .shift) (a .state) (a .bands .now) (a .earlier .now) (a .readings .now) _ _ _ (a .scores .now) (x .column .ensures) (y .column2 .ensures) (b .first-four .ensures) (long (c .before)) (s .pre),
     )
 
 pub settle-by-spec : {M : Type 1} → statement M

@@ -34,14 +34,14 @@ returns : tie.Need-returns
 unfolding shiftOf
 returns c =
     let head = c .before .before .before .before .before .before .before .args .t1 in
-    let n3 : SFits w64 (getD head 3 (pos 0)) = search needs in
     let n4 : SFits w64 (getD head 4 (pos 0)) = search needs in
     let n5 : SFits w64 (getD head 5 (pos 0)) = search needs in
     let n6 : SFits w64 (getD head 6 (pos 0)) = search needs in
     let n7 : SFits w64 (getD head 7 (pos 0)) = search needs in
     let n8 : SFits w64 (getD head 8 (pos 0)) = search needs in
     let n9 : SFits w64 (getD head 9 (pos 0)) = search needs in
-    rw (toZ-ofZ n3, toZ-ofZ n4, toZ-ofZ n5, toZ-ofZ n6, toZ-ofZ n7, toZ-ofZ n8, toZ-ofZ n9)
+    let n10 : SFits w64 (getD head 10 (pos 0)) = search needs in
+    rw (toZ-ofZ n4, toZ-ofZ n5, toZ-ofZ n6, toZ-ofZ n7, toZ-ofZ n8, toZ-ofZ n9, toZ-ofZ n10)
 
 pub shift-of-spec : {M : Type 1} → statement M
 shift-of-spec =

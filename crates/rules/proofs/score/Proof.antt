@@ -21,6 +21,9 @@ array-copy-out-t14 c = search needs
 array-copy-out-t18 : tie.Need-array-copy-out-t18
 array-copy-out-t18 c = search needs
 
+array-copy-out-t22 : tie.Need-array-copy-out-t22
+array-copy-out-t22 c = search needs
+
 second-score-requires : tie.Need-second-score-requires
 second-score-requires c κs = search needs
 
@@ -35,12 +38,13 @@ unfolding scoreReply
 returns c =
     let r = c .before .before .second-score in
     let score = cast-few (c .before) in
-    let head = c .before .before .before .before .before .before .before .args .t1 in
+    let head = c .before .before .before .before .before .before .before .before .args .t1 in
     let n0 : SFits w64 (getD head 0 (pos 0)) = search needs in
     let n1 : SFits w64 (getD head 1 (pos 0)) = search needs in
     let n2 : SFits w64 (getD head 2 (pos 0)) = search needs in
     let n3 : SFits w64 (getD head 3 (pos 0)) = search needs in
-    rw (c .few .ensures, toZ-ofZ score, r .ensures, toZ-ofZ n0, toZ-ofZ n1, toZ-ofZ n2, toZ-ofZ n3)
+    let n4 : SFits w64 (getD head 4 (pos 0)) = search needs in
+    rw (c .few .ensures, toZ-ofZ score, r .ensures, toZ-ofZ n0, toZ-ofZ n1, toZ-ofZ n2, toZ-ofZ n3, toZ-ofZ n4)
 
 pub score-spec : {M : Type 1} → statement M
 score-spec =
@@ -50,6 +54,7 @@ score-spec =
     array-copy-out-t10
     array-copy-out-t14
     array-copy-out-t18
+    array-copy-out-t22
     second-score-requires
     cast-few
     few-requires

@@ -12,7 +12,7 @@ slice-aggregate-fill-by : tie.Need-slice-aggregate-fill-by
 slice-aggregate-fill-by c = search needs
 
 inverse-requires : tie.Need-inverse-requires
-inverse-requires c κs = inside (run-fit _ _ _ _ _ (c .before .before .before .pre) .capacity-fits)
+inverse-requires c κs = inside (run-fit _ _ _ _ _ _ (c .before .before .before .pre) .capacity-fits)
 
 fill-by-requires : tie.Need-fill-by-requires
 fill-by-requires c κs = search needs

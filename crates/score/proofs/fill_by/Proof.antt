@@ -19,14 +19,14 @@ use Rattle.score.proofs.fill_by.Statement.{statement}
 use Rattle.score.proofs.fill_by.Tie as tie
 
 abbrev Inv-loop : tie.InvT-loop
-Inv-loop pairs powers frequencies transfers capacity inverse scores₀ i₀ scores i =
-    (i ≤ length powers) × (length scores ≡ length powers) × (scores ≡ filled (runScoreAt powers frequencies transfers capacity) 0 scores₀ i)
+Inv-loop pairs powers frequencies transfers capacity inverse reference scores₀ i₀ scores i =
+    (i ≤ length powers) × (length scores ≡ length powers) × (scores ≡ filled (runScoreAt powers frequencies transfers capacity reference) 0 scores₀ i)
 
 abbrev μ-loop : tie.MeasureT-loop
-μ-loop pairs powers frequencies transfers capacity inverse scores₀ i₀ scores i = length powers - i
+μ-loop pairs powers frequencies transfers capacity inverse reference scores₀ i₀ scores i = length powers - i
 
-fit : (s : tie.Start Inv-loop μ-loop) → RunFits (s .args .powers .now) (s .args .frequencies .now) (s .args .transfers .now) (s .args .capacity) (length (s .args .scores .now))
-fit s = run-fit _ _ _ _ _ (s .pre .1 .1)
+fit : (s : tie.Start Inv-loop μ-loop) → RunFits (s .args .powers .now) (s .args .frequencies .now) (s .args .transfers .now) (s .args .capacity) (s .args .reference) (length (s .args .scores .now))
+fit s = run-fit _ _ _ _ _ _ (s .pre .1 .1)
 
 loop-holds : tie.Need-loop-holds Inv-loop μ-loop
 loop-holds c = (omega arith, fit (c .before) .as-places, refl)
@@ -63,7 +63,7 @@ judged-in-requires c κs =
     let l = c .before .before .before .before in
     let s = l .before .before in
     rw (toZ-ofZ (power-fits (c .before .before)), toZ-ofZ (transfer-fits (c .before)), toZ-ofZ (frequency-fits c))
-    (s .pre .0, (s .pre .1 .0, run-second _ _ _ _ _ (fit s) (l .loop .i) (omega arith)))
+    (s .pre .0, (s .pre .1 .0, run-second _ _ _ _ _ _ (fit s) (l .loop .i) (omega arith)))
 
 slice-write-scores : tie.Need-slice-write-scores Inv-loop μ-loop
 slice-write-scores c = search needs
@@ -83,12 +83,12 @@ loop-again c =
     let a = s .args in
     let i = l .loop .i in
     let judged = rw (toZ-ofZ (power-fits (f .before .before)), toZ-ofZ (transfer-fits (f .before)), toZ-ofZ (frequency-fits f)) at (c .judged-in .ensures) in
-    let granted = ap (λ (r : Scored). r .score) (second-granted _ _ _ _ (run-second _ _ _ _ _ (fit s) i (omega arith))) in
+    let granted = ap (λ (r : Scored). r .score) (second-granted _ _ _ _ _ (run-second _ _ _ _ _ _ (fit s) i (omega arith))) in
     let n = fit s .as-places in
-    let score : c .judged-in .result ≡ runScoreAt (a .powers .now) (a .frequencies .now) (a .transfers .now) (a .capacity) i = judged ∙ sym granted in (
+    let score : c .judged-in .result ≡ runScoreAt (a .powers .now) (a .frequencies .now) (a .transfers .now) (a .capacity) (a .reference) i = judged ∙ sym granted in (
       omega arith,
       length-set (l .loop .scores) i _ ∙ l .loop .inv .1,
-      rw (score, l .loop .inv .2) (filled-next (runScoreAt (a .powers .now) (a .frequencies .now) (a .transfers .now) (a .capacity)) (a .scores .now) i (omega arith)),
+      rw (score, l .loop .inv .2) (filled-next (runScoreAt (a .powers .now) (a .frequencies .now) (a .transfers .now) (a .capacity) (a .reference)) (a .scores .now) i (omega arith)),
     )
 
 same-length : tie.Need-same-length Inv-loop μ-loop
@@ -100,8 +100,8 @@ returns c =
     let s = l .before .before in
     let a = s .args in
     let n : l .loop .i ≡ length (a .powers .now) = omega arith in
-    l .loop .inv .2 ∙ filled-all (runScoreAt (a .powers .now) (a .frequencies .now) (a .transfers .now) (a .capacity)) 0 (a .scores .now) (l .loop .i) (n ∙ sym (fit s .as-places))
-    ∙ run-scores-is (a .powers .now) (a .frequencies .now) (a .transfers .now) (a .capacity) (length (a .scores .now)) (l .loop .i) n
+    l .loop .inv .2 ∙ filled-all (runScoreAt (a .powers .now) (a .frequencies .now) (a .transfers .now) (a .capacity) (a .reference)) 0 (a .scores .now) (l .loop .i) (n ∙ sym (fit s .as-places))
+    ∙ run-scores-is (a .powers .now) (a .frequencies .now) (a .transfers .now) (a .capacity) (a .reference) (length (a .scores .now)) (l .loop .i) n
 
 pub fill-by-spec : {M : Type 1} → statement M
 fill-by-spec =

@@ -13,10 +13,10 @@ judged-by-requires : tie.Need-judged-by-requires
 judged-by-requires c κs = search needs
 
 -- what the refusal is where the second is let through, and where it is not
-granted : (c : tie.Then1) → let a = c .before .before .args in secondRefusal (a .power) (a .transfer) (a .capacity) (a .frequency) ≡ 0
+granted : (c : tie.Then1) → let a = c .before .before .args in secondRefusal (a .power) (a .transfer) (a .capacity) (a .frequency) (a .reference) ≡ 0
 granted c = search needs
 
-refused : (c : tie.Else1) → let a = c .before .before .args in secondRefusal (a .power) (a .transfer) (a .capacity) (a .frequency) ≡ 0 → ⊥
+refused : (c : tie.Else1) → let a = c .before .before .args in secondRefusal (a .power) (a .transfer) (a .capacity) (a .frequency) (a .reference) ≡ 0 → ⊥
 refused c z = c .if1 .left (c .before .refusal .ensures ∙ z)
 
 returns : tie.Need-returns

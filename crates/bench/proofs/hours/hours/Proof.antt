@@ -7,11 +7,11 @@ use Rattle.bench.proofs.hours.hours.Statement.{statement}
 use Rattle.bench.proofs.hours.hours.Tie as tie
 
 abbrev Inv-loop : tie.InvT-loop
-Inv-loop shifting powers₀ frequencies transfers capacity terms shift scores₀ count x₀ sum₀ n₀ powers scores x sum n =
+Inv-loop shifting powers₀ frequencies transfers capacity terms reference shift scores₀ count x₀ sum₀ n₀ powers scores x sum n =
     (n ≤ count) × (length powers ≡ length powers₀) × (length scores ≡ length scores₀)
 
 abbrev μ-loop : tie.MeasureT-loop
-μ-loop shifting powers₀ frequencies transfers capacity terms shift scores₀ count x₀ sum₀ n₀ powers scores x sum n =
+μ-loop shifting powers₀ frequencies transfers capacity terms reference shift scores₀ count x₀ sum₀ n₀ powers scores x sum n =
     count - n
 
 loop-holds : tie.Need-loop-holds Inv-loop μ-loop
