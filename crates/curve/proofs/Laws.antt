@@ -11,7 +11,7 @@ use Rattle.whole.proofs.Choice.{by-test}
 use Rattle.whole.proofs.Signed.{signed, sum, difference}
 use Rattle.units.specs.Limits.{nominal}
 use Rattle.curve.specs.Curve.{reach, Corner, corner, atDistance, upperAt, lowerAt, movedBack, firstFrequency, lastPlace}
-use Rattle.curve.specs.Inner.{pastFirst, placeOf, placeBy, placeAt}
+use Rattle.curve.specs.Inner.{pastFirst, placePast, placeBy, placeAt}
 
 -- the distance of the place that a distance is read at
 abbrev pub clip : ℤ → ℤ
@@ -26,15 +26,15 @@ above-zero (pos n) = omega arith
 above-zero (negsuc n) = omega arith
 
 -- the place, as `omega` reads it
-pub placed : (steps : ℤ) → placeOf steps ≡ min (up steps - down steps) lastPlace
-unfolding placeOf
+pub placed : (steps : ℤ) → placePast steps ≡ min (up steps - down steps) lastPlace
+unfolding placePast
 placed steps = omega (arith, above-zero steps)
 
 by-distance : (d : ℤ) → placeBy d ≡ min ((up d + reach) - down d) lastPlace
 by-distance d = omega (arith, sum d (pos reach), placed (d +ℤ pos reach))
 
 -- so far past the moved first corner is read the frequency moved back
-pub place-moved : (r f : ℤ) → placeOf (pastFirst r f) ≡ placeAt (movedBack r f)
+pub place-moved : (r f : ℤ) → placePast (pastFirst r f) ≡ placeAt (movedBack r f)
 unfolding placeAt
 place-moved r f =
     omega (

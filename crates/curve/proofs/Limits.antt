@@ -21,12 +21,12 @@ use Rattle.units.specs.Refusals.{badReference, badReading}
 use Rattle.units.specs.declared.Millihertz.{Millihertz}
 use Rattle.curve.specs.Curve.{reach, Corner, atDistance, upperAt, lowerAt, movedBack, boundsAt, curveRefusal, curveAt, firstFrequency, lastPlace, pairsOf, mostPercent}
 use Rattle.curve.specs.Moved.{CurveFits}
-use Rattle.curve.specs.Inner.{pastFirst, placeOf, placeBy, placeAt}
+use Rattle.curve.specs.Inner.{pastFirst, placePast, placeBy, placeAt}
 use Rattle.curve.proofs.Entries.{entry, length-pairs}
 use Rattle.curve.proofs.Laws.{Ends, clipped, place-moved, upper-placed, lower-placed}
 
 pub place-within : (f : ℤ) → placeAt f < lastPlace + 1
-unfolding placeAt placeOf
+unfolding placeAt placePast
 place-within f = omega arith
 
 -- the bound at each of the table's distances is a percent
@@ -38,7 +38,7 @@ Percents percent = allTo (lastPlace + 1) (isPercent percent) ≡ true
 
 module _ (percent : Corner → ℤ) (ends : Ends percent) (percents : Percents percent) where
   distance-within : (d : ℤ) → Within mostPercent (atDistance percent d)
-  unfolding placeOf
+  unfolding placePast
   distance-within d =
       in-within {k = mostPercent} (ap (inRange (minus mostPercent) (pos mostPercent)) (sym (clipped percent ends d)) ∙ all-at (lastPlace + 1) (isPercent percent) percents (placeBy d) (omega arith))
 
@@ -62,8 +62,8 @@ pub bounds-ordered : (f : ℤ) → leZ (lowerAt f) (upperAt f) ≡ true
 bounds-ordered f = rw (upper-placed f, lower-placed f) at (all-at (lastPlace + 1) isOrdered table-ordered (placeAt f) (place-within f))
 
 -- the place that the code finds
-pub placed-by : (r f : ℤ) {steps : ℤ} {k : ℕ} → steps ≡ pastFirst r f → k ≡ placeOf steps → k ≡ placeAt (movedBack r f)
-placed-by r f e k = k ∙ ap placeOf e ∙ place-moved r f
+pub placed-by : (r f : ℤ) {steps : ℤ} {k : ℕ} → steps ≡ pastFirst r f → k ≡ placePast steps → k ≡ placeAt (movedBack r f)
+placed-by r f e k = k ∙ ap placePast e ∙ place-moved r f
 
 -- what the table has at the place of a frequency
 module _ (f : ℤ) {l : List ℤ} {k : ℕ} (table : l ≡ pairsOf) (at : k ≡ placeAt f) where

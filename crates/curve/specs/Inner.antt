@@ -10,12 +10,12 @@ abbrev pub pastFirst : ℤ → ℤ → ℤ
 pastFirst reference f = f -ℤ (reference -ℤ pos reach)
 
 -- the place among the table's pairs that is read so far past the first corner: before the table the first, after it the last
-unfoldable pub placeOf : ℤ → ℕ
-placeOf steps = min (up steps) lastPlace
+unfoldable pub placePast : ℤ → ℕ
+placePast steps = min (up steps) lastPlace
 
 -- that of a distance, and so of a frequency
 abbrev pub placeBy : ℤ → ℕ
-placeBy d = placeOf (d +ℤ pos reach)
+placeBy d = placePast (d +ℤ pos reach)
 
 unfoldable pub placeAt : ℤ → ℕ
 placeAt f = placeBy (f -ℤ pos nominal)

@@ -3,7 +3,7 @@
 ghost use mathlib.Core.Path.{_≡_};
 ghost use Rattle.curve.specs.Curve.{curveRefusal, curveAt, movedBack, boundsAt, pairsOf};
 ghost use Rattle.curve.specs.Moved.{CurveFits};
-ghost use Rattle.curve.specs.Inner.{placeOf};
+ghost use Rattle.curve.specs.Inner.{placePast};
 use units::Millihertz;
 use units::limits;
 use units::refusals;
@@ -58,7 +58,7 @@ fn refusal(frequency: Millihertz, reference: Millihertz) -> u8
 
 // The place among the table's pairs that is read so many millihertz past the first corner: the nearer end outside.
 pub fn place(steps: i64) -> usize
-    ensures { λ r. ⌜ r ≡ placeOf steps ⌝ }
+    ensures { λ r. ⌜ r ≡ placePast steps ⌝ }
 {
     if steps < 0 {
         return 0;

@@ -15,7 +15,7 @@ use Rattle.units.specs.Limits.{isPower, isFrequency, mostScore}
 use Rattle.units.specs.declared.Kilowatts.{Kilowatts}
 use Rattle.units.specs.declared.Millihertz.{Millihertz}
 use Rattle.curve.specs.Curve.{upperBy, lowerBy}
-use Rattle.score.specs.Score.{percentOutput, scoreOf, secondTests, secondRefusal, judgedBy, secondScore}
+use Rattle.score.specs.Score.{percentOutput, scoreOf, scoreTests, secondRefusal, judgedBy, secondScore}
 use Rattle.score.specs.Accepted.{SecondFits}
 use Rattle.score.specs.declared.Scored.{Scored}
 
@@ -63,7 +63,7 @@ module _ (power transfer capacity : Kilowatts) (frequency reference : Millihertz
   pub second-fit : secondRefusal power transfer capacity frequency reference ≡ 0 → SecondFits power transfer capacity frequency reference
   unfolding secondRefusal
   second-fit e =
-      let p = all-passed (secondTests power transfer capacity frequency reference) refl e in
+      let p = all-passed (scoreTests power transfer capacity frequency reference) refl e in
       let q = and-both (isPower (power .0)) (isFrequency (frequency .0)) (p .1 .1 .1 .0) in
       record { capacity = p .0; reference = p .1 .0; transfer = p .1 .1 .0; power = q .0; frequency = q .1 }
 

@@ -25,8 +25,8 @@ abbrev pub isReading : ℤ → ℤ → Bool
 isReading power frequency = isPower power && isFrequency frequency
 
 -- "Order. Hour, and calls for a part of its work", and "19 .. directly after 2" (document 02, #107): 2, 19, 10, 4
-abbrev pub secondTests : Kilowatts → Kilowatts → Kilowatts → Millihertz → Millihertz → List (Bool × ℕ)
-secondTests power transfer capacity frequency reference =
+abbrev pub scoreTests : Kilowatts → Kilowatts → Kilowatts → Millihertz → Millihertz → List (Bool × ℕ)
+scoreTests power transfer capacity frequency reference =
     (isCapacity (capacity .0), badCapacity)
     ∷ (isReference (reference .0), badReference)
     ∷ (isTransfer (transfer .0), badTransfer)
@@ -34,7 +34,7 @@ secondTests power transfer capacity frequency reference =
     ∷ []
 
 unfoldable pub secondRefusal : Kilowatts → Kilowatts → Kilowatts → Millihertz → Millihertz → ℕ
-secondRefusal power transfer capacity frequency reference = inOrder (secondTests power transfer capacity frequency reference)
+secondRefusal power transfer capacity frequency reference = inOrder (scoreTests power transfer capacity frequency reference)
 
 -- a second's power, judged by the pair of a frequency: the caller hands in that of the second before
 unfoldable pub judgedBy : Kilowatts → Kilowatts → Kilowatts → Millihertz → Millihertz → ℕ
