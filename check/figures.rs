@@ -1,5 +1,6 @@
 //! The figures that document 01 prints ("Worked figures", "Frames"), typed off the paper, #101's frames of them, #102's
-//! first windows, #103's events, #105's pair and #107's moved references: this side's rules have to give them, and the programs too.
+//! first windows, #103's events, #105's pair and #107's moved references: this side's rules have to give them, and the
+//! programs too.
 
 use crate::draw::Draw;
 use crate::programs::Program;

@@ -118,7 +118,7 @@ fn power_at(draw: &mut Draw, percent: i64, transfer: i64, capacity: i64) -> i64 
     (transfer + power).clamp(POWER.0, POWER.1)
 }
 
-/// A percent output at, in or near the curve's bounds.
+/// A percent output at, in or near the curve's bounds, which a deliberate fault may have in each other's place.
 fn percent_near(draw: &mut Draw, frequency: i64, reference: i64) -> i64 {
     let (upper, lower) = bounds(frequency, reference);
     match draw.below(6) {

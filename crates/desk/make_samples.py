@@ -90,11 +90,11 @@ def by_reference(by, powers, rest=""):
     return f"{words(CAPACITY, REFERENCE + by, CLEARING, PERFORMANCE)}{rest}\n{list_s}\n0\n{columns}"
 
 
-def moved_scores_of(by):
+def scores_by_reference(by):
     return model.hour(powers, [f + by for f in frequencies], [0] * 3600, terms, model.THRESHOLDS, model.FACTORS, [], REFERENCE + by)[1]
 
 
-assert moved_scores_of(-500) == moved_scores_of(500) == scores
+assert scores_by_reference(-500) == scores_by_reference(500) == scores
 shifting = " " + words(DISCHARGE, CHARGE, *TARGETS)
 
 # ---- an hour at 60 Hz whose first second scores 0, by itself and after an hour

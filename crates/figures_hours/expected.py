@@ -342,7 +342,7 @@ for label, power, f, target in [
 ]:
     work(label, [power] * 3600, [f] * 3600, (10**5, 10**7, 10**7, 10**7, 10**7, [target] * 5))
 
-line("refused hours: 1, 2, 3, 5, 10, 4 in this order")
+line("refused hours by 60,000: 1, 2, 3, 5, 10, 4 in this order")
 
 
 def attempt(label, k, powers, frequencies, capacity, charge, tenths, target, places=3600):
@@ -460,8 +460,10 @@ join("101, place filled", 4, some, 0, m, 3, 10, [100, 101, 100])
 # ---- a moved reference
 
 line("document 02, #107: hours by a moved reference")
-swing = [2000, -2500] * 1800
-for name, terms, up in [("dReg", (10000, 43000, 35000, 0, 0, [0] * 5), 300), ("E-dReg", terms_of(discharging), 500)]:
+for name, swing, terms, up in [
+    ("dReg", [2000, -2500] * 1800, (10000, 43000, 35000, 0, 0, [0] * 5), 300),
+    ("E-dReg", transfers(discharging), terms_of(discharging), 500),
+]:
     answers = []
     for label, by, reference in [("as it is", 0, 60000), ("moved by -500", -500, 59500), ("moved by %d" % up, up, 60000 + up)]:
         frequencies = [f + by for f in wavering]

@@ -19,7 +19,7 @@ use Rattle.whole.proofs.Sums.{in-within}
 use Rattle.units.specs.Limits.{nominal, leastReference, mostReference, isReference, leastFrequency, mostFrequency, isFrequency}
 use Rattle.units.specs.Refusals.{badReference, badReading}
 use Rattle.units.specs.declared.Millihertz.{Millihertz}
-use Rattle.curve.specs.Curve.{reach, Corner, atDistance, upperAt, lowerAt, movedBack, boundsAt, curveRefusal, curveAt, firstFrequency, lastPlace, pairsOf, mostPercent}
+use Rattle.curve.specs.Curve.{reach, Corner, atDistance, upperAt, lowerAt, movedBack, boundsBy, curveRefusal, curveAt, firstFrequency, lastPlace, pairsOf, mostPercent}
 use Rattle.curve.specs.Moved.{CurveFits}
 use Rattle.curve.specs.Inner.{pastFirst, placePast, placeBy, placeAt}
 use Rattle.curve.proofs.Entries.{entry, length-pairs}
@@ -90,7 +90,7 @@ module _ (f r : Millihertz) where
   fit-curve e = rw (e .reference, e .frequency)
 
   -- a frequency and a reference in their ranges have the bounds of the frequency moved back
-  pub curve-granted : curveRefusal f r ≡ 0 → curveAt f r ≡ boundsAt (movedBack (r .0) (f .0))
+  pub curve-granted : curveRefusal f r ≡ 0 → curveAt f r ≡ boundsBy (r .0) (f .0)
   unfolding curveAt
   curve-granted e = kept-new _ _ e
 

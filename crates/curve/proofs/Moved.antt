@@ -33,8 +33,8 @@ back-together d r f =
     omega (signed, sum r d, sum f d, difference (r +ℤ d) (pos nominal), difference r (pos nominal), difference (f +ℤ d) ((r +ℤ d) -ℤ pos nominal), difference f (r -ℤ pos nominal))
 
 -- "every corner moves with it": what is read is the table at the distance from the reference
-pub around : (percent : Corner → ℤ) (r f : ℤ) → bound percent (pos nominal) (movedBack r f) ≡ bound percent r f
-around percent r f =
+pub bound-around : (percent : Corner → ℤ) (r f : ℤ) → bound percent (pos nominal) (movedBack r f) ≡ bound percent r f
+bound-around percent r f =
     let e : movedBack r f -ℤ pos nominal ≡ f -ℤ r = omega (signed, difference r (pos nominal), difference f (r -ℤ pos nominal), difference (movedBack r f) (pos nominal), difference f r) in
     ap (atDistance percent) e
 

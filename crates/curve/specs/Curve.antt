@@ -74,16 +74,19 @@ lowerBy reference f = lowerAt (movedBack reference f)
 abbrev pub boundsAt : ℤ → Bounds
 boundsAt f = record { refusal = 0; upper = upperAt f; lower = lowerAt f }
 
+abbrev pub boundsBy : ℤ → ℤ → Bounds
+boundsBy reference f = record { refusal = 0; upper = upperBy reference f; lower = lowerBy reference f }
+
 abbrev pub noBounds : ℕ → Bounds
 noBounds k = record { refusal = k; upper = pos 0; lower = pos 0 }
 
--- 19, 4
+-- "19 for a reference outside the range" (document 02, #107), 4
 unfoldable pub curveRefusal : Millihertz → Millihertz → ℕ
 curveRefusal frequency reference = inOrder ((isReference (reference .0), badReference) ∷ (isFrequency (frequency .0), badReading) ∷ [])
 
 -- the pair of a frequency by a reference, each in its range
 unfoldable pub curveAt : Millihertz → Millihertz → Bounds
-curveAt frequency reference = let k = curveRefusal frequency reference in kept k (boundsAt (movedBack (reference .0) (frequency .0))) (noBounds k)
+curveAt frequency reference = let k = curveRefusal frequency reference in kept k (boundsBy (reference .0) (frequency .0)) (noBounds k)
 
 -- n pairs, an upper bound and its lower one, from the frequency f on
 abbrev pub pairsFrom : ℕ → ℕ → List ℤ

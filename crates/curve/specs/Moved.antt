@@ -1,4 +1,4 @@
--- What the theorems of #107 (proofs/Accepted.antt, proofs/Moved.antt) are stated in: what fits; the curve as document 01 has it, with no reference; and its table, each corner moved.
+-- What the theorems of document 02, #107 (proofs/Accepted.antt, proofs/Moved.antt) are stated in: what fits; the curve as document 01 has it, with no reference; millihertz, moved.
 use mathlib.Core.Path.{_≡_}
 use mathlib.Core.Bool.{true}
 use lib.IntN.{ℤ, pos, _+ℤ_}

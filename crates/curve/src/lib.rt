@@ -1,7 +1,7 @@
 // The power curve (document 001, table 1): a frequency's upper and lower power in percent of capacity, by a reference
 // that may be moved.
 ghost use mathlib.Core.Path.{_≡_};
-ghost use Rattle.curve.specs.Curve.{curveRefusal, curveAt, movedBack, boundsAt, pairsOf};
+ghost use Rattle.curve.specs.Curve.{curveRefusal, curveAt, boundsBy, pairsOf};
 ghost use Rattle.curve.specs.Moved.{CurveFits};
 ghost use Rattle.curve.specs.Inner.{placePast};
 use units::Millihertz;
@@ -52,8 +52,8 @@ fn refusal(frequency: Millihertz, reference: Millihertz) -> u8
     let around = reference.0;
     let read = whole::within(f, limits::LEAST_FREQUENCY, limits::MOST_FREQUENCY);
     let reading = whole::unless(read, refusals::BAD_READING, 0);
-    let moved = whole::within(around, limits::LEAST_REFERENCE, limits::MOST_REFERENCE);
-    whole::unless(moved, refusals::BAD_REFERENCE, reading)
+    let referred = whole::within(around, limits::LEAST_REFERENCE, limits::MOST_REFERENCE);
+    whole::unless(referred, refusals::BAD_REFERENCE, reading)
 }
 
 // The place among the table's pairs that is read so many millihertz past the first corner: the nearer end outside.
@@ -69,8 +69,8 @@ pub fn place(steps: i64) -> usize
     steps as usize
 }
 
-// The table: the upper and the lower bound of each millihertz from FIRST to LAST, one pair after the other. A run of
-// seconds makes it once. In bytes a pair's place takes no shift.
+// The table: the upper and the lower bound of each millihertz from the first corner to the last, one pair after the
+// other. A run of seconds makes it once. In bytes a pair's place takes no shift.
 pub fn pairs() -> [i8; ENTRIES]
     ensures { λ r. ⌜ r ≡ pairsOf ⌝ }
 {
@@ -80,7 +80,7 @@ pub fn pairs() -> [i8; ENTRIES]
 // The pair of a frequency and a reference that are not refused.
 fn bounds_at(frequency: Millihertz, reference: Millihertz) -> Bounds
     requires { ⌜ CurveFits frequency reference ⌝ }
-    ensures { λ r. ⌜ r ≡ boundsAt (movedBack (reference .0) (frequency .0)) ⌝ }
+    ensures { λ r. ⌜ r ≡ boundsBy (reference .0) (frequency .0) ⌝ }
 {
     let pairs = pairs();
     let f = frequency.0;

@@ -117,5 +117,15 @@ fn joins(powers: &[i64]) {
 // On day 3.
 fn join(label: &[u8], powers: &[i64], earlier: &[u8], m: Month, hour: u8) -> Month {
     let frequencies = [60_000i64; limits::SECONDS];
-    joint_cases::join_after(label, powers, &frequencies, 60_000, 0, earlier, m, 3, hour)
+    joint_cases::join_after(
+        label,
+        powers,
+        &frequencies,
+        limits::NOMINAL,
+        0,
+        earlier,
+        m,
+        3,
+        hour,
+    )
 }

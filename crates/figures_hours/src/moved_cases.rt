@@ -9,6 +9,8 @@ use month::Month;
 use units::Kilowatts;
 use units::limits;
 
+const TARGETS: [i64; 5] = [-3_000, 3_000, 4_000, 2_001, 5_000];
+
 // Frequencies over the whole curve: an hour whose frequencies all move with the reference scores as the old one, and
 // one whose frequencies stay does not.
 pub(crate) fn hours() {
@@ -23,20 +25,23 @@ pub(crate) fn hours() {
     waver(b"E-dReg, the reference alone", true, 59_700, 60_500);
 }
 
-// An hour that wavers over 601 millihertz, from the first on.
+// An hour that wavers over 601 millihertz, from the first on; what is shifted follows its plan.
 fn waver(label: &[u8], shifting: bool, first: u32, reference: i64) {
     let mut powers = [0i64; limits::SECONDS];
+    if shifting {
+        readings::follow(&mut powers, &TARGETS);
+        over(label, shifting, &powers, first, reference);
+        return;
+    }
+    readings::fill(&mut powers, 0, limits::SECONDS, Rule::Turns(2_000, -2_500));
+    over(label, shifting, &powers, first, reference);
+}
+
+fn over(label: &[u8], shifting: bool, powers: &[i64], first: u32, reference: i64) {
     let mut frequencies = [0i64; limits::SECONDS];
     readings::fill(&mut frequencies, 0, limits::SECONDS, Rule::Waver(first));
-    readings::fill(&mut powers, 0, limits::SECONDS, Rule::Turns(2_000, -2_500));
-    around(
-        label,
-        shifting,
-        &powers,
-        &frequencies,
-        hour_cases::terms(),
-        reference,
-    );
+    let terms = hour_cases::terms();
+    around(label, shifting, powers, &frequencies, terms, reference);
 }
 
 // A dReg or an E-dReg hour.
@@ -51,7 +56,7 @@ fn around(
     let none = [0u8; 0];
     let mut scores = [7u8; limits::SECONDS];
     if shifting {
-        let shift = hour_cases::shift_of([-3_000, 3_000, 4_000, 2_001, 5_000]);
+        let shift = hour_cases::shift_of(TARGETS);
         hour_cases::work(
             label,
             powers,

@@ -6,7 +6,7 @@ pub(crate) enum Rule {
     Level(i64),
     // at even places and at odd ones
     Turns(i64, i64),
-    // frequencies over 601 millihertz, from this one on: over the whole curve from 300 below its reference on
+    // 601 frequencies from this one on; from 300 below the reference they cover the whole curve
     Waver(u32),
     // consumption in document 001's table 2
     Table2,

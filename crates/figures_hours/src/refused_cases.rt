@@ -9,7 +9,7 @@ use units::Millihertz;
 use units::limits;
 
 pub(crate) fn hours() {
-    text::heading(b"refused hours: 1, 2, 3, 5, 10, 4 in this order");
+    text::heading(b"refused hours by 60,000: 1, 2, 3, 5, 10, 4 in this order");
     let mut powers = [0i64; limits::SECONDS];
     let mut frequencies = [0i64; limits::SECONDS];
     faults(&mut powers, &mut frequencies);

@@ -1,7 +1,7 @@
 -- A MOVED REFERENCE (document 02, #107), of the hour: at 60,000 the answer, and the run that is left, are the old ones; moving the reference and every frequency together changes nothing while
 -- they are in their ranges. By the laws of the run of scores; over the contracts of `hour` and `dreg_hour` as the source states them. Assumes nothing.
 use Prim.Native.Nat.{ℕ}
-use mathlib.Core.Path.{_≡_, refl, sym, ap, _∙_}
+use mathlib.Core.Path.{_≡_, sym, ap, _∙_}
 use mathlib.Core.Bool.{true, false}
 use mathlib.Core.List.{List}
 use lib.Dec.{eqb}
@@ -86,8 +86,8 @@ module _ (d : ℤ) (h : WholeHour) (m : MoveFits d (h .frequencies) (h .referenc
 answers-together : (d : ℤ) {h g : WholeHour} {run again scores others : List ℕ} {r x : Settlement} → r ≡ hourAnswer h (length run) → scores ≡ scoresLeft h run
     → x ≡ hourAnswer g (length again) → others ≡ scoresLeft g again → MovedTogether d h g run again → (x ≡ r) × (others ≡ scores)
 answers-together d {h} {g} {run} answer left also kept m = (
-  also ∙ (λ i. hourAnswer (m .hour i) (length (m .places i))) ∙ together-hour d h (m .fits) (length run) ∙ sym answer,
-  kept ∙ (λ i. scoresLeft (m .hour i) (m .places i)) ∙ together-left d h (m .fits) run ∙ sym left,
+  also ∙ (λ i. hourAnswer (m .hour i) (length (m .lent i))) ∙ together-hour d h (m .fits) (length run) ∙ sym answer,
+  kept ∙ (λ i. scoresLeft (m .hour i) (m .lent i)) ∙ together-left d h (m .fits) run ∙ sym left,
 )
 
 -- ---- over the contracts

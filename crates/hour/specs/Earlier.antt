@@ -1,5 +1,5 @@
--- What the theorems of #102 (proofs/Earlier.antt) are stated in: the hour by its own seconds alone, as document 01 has it (by a reference since #107), with no earlier scores to look at and windows that hold only its
--- own seconds; and two hours that are rated as one run of seconds.
+-- What the theorems of #102 (proofs/Earlier.antt) are stated in: the hour by its own seconds alone, as document 01 has it (by a reference since #107), with no earlier scores to look at and windows
+-- that hold only its own seconds; and two hours that are rated as one run of seconds.
 use Prim.Native.Nat.{ℕ}
 use mathlib.Core.Path.{_≡_}
 use mathlib.Core.Bool.{Bool}

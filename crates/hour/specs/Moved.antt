@@ -1,4 +1,4 @@
--- What the theorems of #107 (proofs/Moved.antt) are stated in: an hour that reads no reference, as it was before; and an hour whose reference and frequencies are moved together.
+-- What the theorems of document 02, #107 (proofs/Moved.antt) are stated in: an hour that reads no reference, as it was before; and an hour whose reference and frequencies are moved together.
 use Prim.Native.Nat.{ℕ}
 use mathlib.Core.Path.{_≡_}
 use mathlib.Core.Bool.{Bool, _&&_}
@@ -58,5 +58,5 @@ hourMovedBy d h =
 -- the hour g, with a lent run again, is the hour h, with the run, moved by d; all in their ranges before and after
 pub record MovedTogether (d : ℤ) (h g : WholeHour) (run again : List ℕ) : Type 0 where
   pub hour : g ≡ hourMovedBy d h
-  pub places : again ≡ run
+  pub lent : again ≡ run
   pub fits : MoveFits d (h .frequencies) (h .reference)

@@ -65,18 +65,12 @@ pub fn dreg_hour(
     ensures answers { λ r. ⌜ r ≡ hourAnswer (dRegHour (now (powers .entry)) (now (frequencies .entry)) terms reference (now (thresholds .entry)) (now (factors .entry)) (now (earlier .entry))) (length (now (scores .entry))) ⌝ }
     ensures leaves { λ r. ⌜ now (scores .exit) ≡ scoresLeft (dRegHour (now (powers .entry)) (now (frequencies .entry)) terms reference (now (thresholds .entry)) (now (factors .entry)) (now (earlier .entry))) (now (scores .entry)) ⌝ }
 {
-    let k = terms_refusal(
-        powers.len(),
-        frequencies.len(),
-        earlier.len(),
-        scores.len(),
-        terms,
-        reference_fits(reference),
-        thresholds,
-        factors,
-        true,
-        true,
-    );
+    let p = powers.len();
+    let f = frequencies.len();
+    let e = earlier.len();
+    let n = scores.len();
+    let referred = reference_fits(reference);
+    let k = terms_refusal(p, f, e, n, terms, referred, thresholds, factors, true, true);
     if k != 0 {
         return refused_hour(k);
     }

@@ -88,13 +88,13 @@ pub record Basis : Type 0 where
   pub state : EventState
 
 -- CAPACITY; for dReg and E-dReg REFERENCE, "directly after CAPACITY" (document 02, #107), which sReg does not move; CLEARING PERFORMANCE
-abbrev pub pricesFrom : words.Hour → ℕ
-pricesFrom Dreg = 2
-pricesFrom Edreg = 2
-pricesFrom Sreg = 1
+abbrev pub pricesAt : words.Hour → ℕ
+pricesAt Dreg = 2
+pricesAt Edreg = 2
+pricesAt Sreg = 1
 
 unfoldable pub termsOf : words.Hour → List ℤ → Terms
-termsOf hour n = record { capacity = kilowatts (number n 0); clearing = number n (pricesFrom hour); performance = number n (pricesFrom hour + 1) }
+termsOf hour n = record { capacity = kilowatts (number n 0); clearing = number n (pricesAt hour); performance = number n (pricesAt hour + 1) }
 
 unfoldable pub referenceOf : words.Hour → List ℤ → Millihertz
 referenceOf Dreg n = millihertz (number n 1)

@@ -7,7 +7,7 @@ ghost use lib.ListN.{length, drop};
 ghost use Rattle.numbers.specs.Numbers.{column};
 ghost use Rattle.numbers.specs.Inner.{taken};
 ghost use Rattle.words.specs.Inner.{boxed};
-ghost use Rattle.hours.specs.Hours.{hourNumbers, pricesFrom, termsOf, referenceOf, shiftOf, serviceOf, hourFrom, countsFit, stateNumbers, equals, stateAsked, stateHanded, stateFields, stateless, endedBy, leftBy, hourBy, hourAsked, settledBy, settlement, scoresAfter, hourReply};
+ghost use Rattle.hours.specs.Hours.{hourNumbers, pricesAt, termsOf, referenceOf, shiftOf, serviceOf, hourFrom, countsFit, stateNumbers, equals, stateAsked, stateHanded, stateFields, stateless, endedBy, leftBy, hourBy, hourAsked, settledBy, settlement, scoresAfter, hourReply};
 ghost use Rattle.hours.specs.Inner.{pairsIn, fieldsShown, inTwelve};
 use hour::Settlement;
 use hour::Shift;
@@ -365,8 +365,8 @@ fn stateless(settled: Settlement) -> Settled
 }
 
 // How many numbers stand before the prices: an sReg hour has no reference.
-fn prices_from(hour: Hour) -> usize
-    ensures is { λ r. ⌜ r ≡ pricesFrom hour ⌝ }
+fn prices_at(hour: Hour) -> usize
+    ensures is { λ r. ⌜ r ≡ pricesAt hour ⌝ }
     ensures most { λ r. ⌜ r ≤ 2 ⌝ }
 {
     match hour {
@@ -379,7 +379,7 @@ fn prices_from(hour: Hour) -> usize
 fn terms_of(hour: Hour, numbers: [i64; 12]) -> Terms
     ensures { λ r. ⌜ r ≡ termsOf hour numbers ⌝ }
 {
-    let n = prices_from(hour);
+    let n = prices_at(hour);
     Terms {
         capacity: Kilowatts(numbers[0]),
         clearing: numbers[n],

@@ -14,7 +14,7 @@ use denote.Ref.{RefT, now}
 use denote.Triple.Clauses.{AtExit}
 use borrow.Fn.Kinds.{endedOf}
 use borrow.Author.Tests.{eqb-true}
-use Rattle.whole.proofs.Choice.{by-test, kept-new}
+use Rattle.whole.proofs.Choice.{by-test}
 use Rattle.whole.proofs.Runs.{listed-same}
 use Rattle.whole.proofs.Sums.{all-inside}
 use Rattle.units.specs.Limits.{leastFrequency, mostFrequency}
@@ -25,8 +25,8 @@ use Rattle.curve.specs.Moved.{CurveFits, unmoved, movedBy}
 use Rattle.curve.proofs.Moved.{back-unmoved, back-together, unmoved-fits}
 use Rattle.score.specs.Score.{secondRefusal, judgedBy, secondScore}
 use Rattle.score.specs.Run.{runScoreAt, runScores, runRefusal, runLeft}
-use Rattle.score.specs.Calls.{scoresRun}
-use Rattle.score.specs.Moved.{secondUnmoved, runUnmovedAt, runUnmoved, runUnmovedRefusal, runUnmovedLeft, allMovedBy, MoveFits}
+use Rattle.score.specs.Calls.{ScoresArguments, scoresRun}
+use Rattle.score.specs.Moved.{secondUnmoved, runUnmovedAt, runUnmoved, runUnmovedRefusal, runUnmovedLeft, allMovedBy, MoveFits, RunsMoved}
 use Rattle.score.specs.declared.Scored.{Scored}
 use Rattle.score.proofs.Run.{run-fit}
 use Rattle.score.proofs.second_score.Reads as second-score
@@ -126,15 +126,19 @@ module _ (d : ℤ) (powers frequencies transfers : List ℤ) (capacity : Kilowat
       (λ (t : eqb k 0 ≡ true). rw t (together-run (run-fit powers frequencies transfers capacity reference (length run) (eqb-true k 0 t) .as-frequencies)))
       (λ (t : eqb k 0 ≡ false). rw t))
 
--- two calls on the same run, the second with every frequency and the reference moved by d
-pub run-scores-together : (κs ηs : Lfts 4) (d : ℤ) (powers frequencies moved transfers : RefT (List ℤ)) (capacity : Kilowatts) (reference : Millihertz) (scores : RefT (List ℕ)) (x y : ℕ)
+-- two calls, the second with every frequency and the reference moved by d
+pub run-scores-together : (κs ηs : Lfts 4) (d : ℤ) (a b : ScoresArguments) (x y : ℕ)
     (s : AtExit (endedOf 4 run-scores-kinds.ps run-scores-kinds.r) κs) (t : AtExit (endedOf 4 run-scores-kinds.ps run-scores-kinds.r) ηs)
-    → run-scores.Post κs (powers, (frequencies, (transfers, (capacity, (reference, (scores, tt)))))) x s
-    → run-scores.Post ηs (powers, (moved, (transfers, (capacity, (movedBy d reference, (scores, tt)))))) y t
-    → now moved ≡ allMovedBy d (now frequencies) → MoveFits d (now frequencies) reference → (y ≡ x) × (scoresRun ηs t ≡ scoresRun κs s)
-run-scores-together κs ηs d powers frequencies moved transfers capacity reference scores x y s t p q e m = (
-  q .0 ∙ ap (λ (fs : List ℤ). runRefusal (now powers) fs (now transfers) capacity (movedBy d reference) (length (now scores))) e
-      ∙ together-refusal d (now powers) (now frequencies) (now transfers) capacity reference m (length (now scores)) ∙ sym (p .0),
-  q .1 ∙ ap (λ (fs : List ℤ). runLeft (now powers) fs (now transfers) capacity (movedBy d reference) (now scores)) e
-      ∙ together-left d (now powers) (now frequencies) (now transfers) capacity reference m (now scores) ∙ sym (p .1),
-)
+    → run-scores.Post κs a x s → run-scores.Post ηs b y t → RunsMoved d a b → (y ≡ x) × (scoresRun ηs t ≡ scoresRun κs s)
+run-scores-together κs ηs d a b x y s t p q m =
+    let powers = now (a .0) in
+    let frequencies = now (a .1 .0) in
+    let transfers = now (a .1 .1 .0) in
+    let capacity = a .1 .1 .1 .0 in
+    let reference = a .1 .1 .1 .1 .0 in
+    let run = now (a .1 .1 .1 .1 .1 .0) in (
+      q .0 ∙ (λ i. runRefusal (m .powers i) (m .frequencies i) (m .transfers i) (m .capacity i) (m .reference i) (length (m .lent i)))
+          ∙ together-refusal d powers frequencies transfers capacity reference (m .fits) (length run) ∙ sym (p .0),
+      q .1 ∙ (λ i. runLeft (m .powers i) (m .frequencies i) (m .transfers i) (m .capacity i) (m .reference i) (m .lent i))
+          ∙ together-left d powers frequencies transfers capacity reference (m .fits) run ∙ sym (p .1),
+    )

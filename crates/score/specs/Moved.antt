@@ -1,4 +1,4 @@
--- What the theorems of #107 (proofs/Moved.antt) are stated in: a second's score and a run's as document 01 has them, with no reference; and frequencies, each moved.
+-- What the theorems of document 02, #107 (proofs/Moved.antt) are stated in: a second's score and a run's as document 01 has them, with no reference; and frequencies, each moved.
 use Prim.Native.Nat.{ℕ}
 use mathlib.Core.Path.{_≡_}
 use mathlib.Core.Bool.{true, _&&_}
@@ -6,6 +6,7 @@ use mathlib.Core.List.{List, [], _∷_, map}
 use lib.Dec.{eqb}
 use lib.IntN.{ℤ, pos, _+ℤ_}
 use lib.ListN.{length, getD}
+use denote.Ref.{now}
 use Rattle.whole.specs.Choice.{inOrder, kept}
 use Rattle.whole.specs.Runs.{listed}
 use Rattle.units.specs.Refusals.{wrongLength, badCapacity, badReading, badTransfer}
@@ -16,6 +17,7 @@ use Rattle.units.specs.declared.Millihertz.{Millihertz}
 use Rattle.curve.specs.Curve.{upperAt, lowerAt}
 use Rattle.curve.specs.Moved.{movedBy}
 use Rattle.score.specs.Score.{percentOutput, scoreOf, isReading, noScore}
+use Rattle.score.specs.Calls.{ScoresArguments}
 use Rattle.score.specs.declared.Scored.{Scored}
 
 -- 2, 10, 4
@@ -61,3 +63,13 @@ pub record MoveFits (d : ℤ) (frequencies : List ℤ) (reference : Millihertz) 
   pub frequencies-fit : areFrequencies frequencies ≡ true
   pub reference-moved : isReference (movedBy d reference .0) ≡ true
   pub frequencies-moved : areFrequencies (allMovedBy d frequencies) ≡ true
+
+-- what a second call of `run_scores` is handed: the same run, every frequency and the reference moved by d; all in their ranges before and after
+pub record RunsMoved (d : ℤ) (a b : ScoresArguments) : Type 0 where
+  pub powers : now (b .0) ≡ now (a .0)
+  pub frequencies : now (b .1 .0) ≡ allMovedBy d (now (a .1 .0))
+  pub transfers : now (b .1 .1 .0) ≡ now (a .1 .1 .0)
+  pub capacity : b .1 .1 .1 .0 ≡ a .1 .1 .1 .0
+  pub reference : b .1 .1 .1 .1 .0 ≡ movedBy d (a .1 .1 .1 .1 .0)
+  pub lent : now (b .1 .1 .1 .1 .1 .0) ≡ now (a .1 .1 .1 .1 .1 .0)
+  pub fits : MoveFits d (now (a .1 .0)) (a .1 .1 .1 .1 .0)

@@ -22,7 +22,7 @@ runScoreAt powers frequencies transfers capacity reference i =
 unfoldable pub runScores : List ℤ → List ℤ → List ℤ → Kilowatts → Millihertz → List ℕ
 runScores powers frequencies transfers capacity reference = listed (runScoreAt powers frequencies transfers capacity reference) 0 (length powers)
 
--- "Order. Hour, and calls for a part of its work": 1 where the four runs are not as long as each other, 2, 19, 10, 4
+-- "Order. Hour, and calls for a part of its work", and "19 .. directly after 2" (document 02, #107): 1 where the four runs are not as long as each other, 2, 19, 10, 4
 abbrev pub runTests : List ℤ → List ℤ → List ℤ → Kilowatts → Millihertz → ℕ → List (Bool × ℕ)
 runTests powers frequencies transfers capacity reference places =
     (eqb (length frequencies) (length powers) && eqb (length transfers) (length powers) && eqb places (length powers), wrongLength)

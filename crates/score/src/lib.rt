@@ -117,16 +117,10 @@ fn award_refusal(capacity: Kilowatts, reference: Millihertz, rest: u8) -> u8
 {
     let c = capacity.0;
     let around = reference.0;
-    let moved = whole::unless(
-        whole::within(around, limits::LEAST_REFERENCE, limits::MOST_REFERENCE),
-        refusals::BAD_REFERENCE,
-        rest,
-    );
-    whole::unless(
-        whole::within(c, 1, limits::CAPACITY),
-        refusals::BAD_CAPACITY,
-        moved,
-    )
+    let referred = whole::within(around, limits::LEAST_REFERENCE, limits::MOST_REFERENCE);
+    let reference = whole::unless(referred, refusals::BAD_REFERENCE, rest);
+    let awarded = whole::within(c, 1, limits::CAPACITY);
+    whole::unless(awarded, refusals::BAD_CAPACITY, reference)
 }
 
 // The score of a second that is not refused.

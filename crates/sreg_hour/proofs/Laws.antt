@@ -31,7 +31,7 @@ use Rattle.sreg_hour.specs.Accepted.{SRegFits}
 use Rattle.sreg_hour.specs.Inner.{sRegWorkedRefusal, sRegWorked, sRegWorkedLeft}
 use Rattle.sreg_hour.specs.declared.Settled.{Settled}
 
--- what a dReg hour would be handed, with the reference where it is
+-- what a dReg hour would be handed, the reference where nobody moves it
 abbrev pub unshifted : SRegHour → WholeHour
 unshifted h = dRegHour (h .powers) (h .frequencies) (h .terms) unmoved (h .thresholds) (h .factors) (h .earlier)
 

@@ -11,7 +11,7 @@ use borrow.Author.Needs.{needs}
 use Rattle.whole.proofs.Signed.{within-fits}
 use Rattle.curve.specs.Curve.{movedBack, upperAt, lowerAt, lastPlace}
 use Rattle.curve.specs.Inner.{placeAt}
-use Rattle.curve.proofs.Limits.{place-within, placed-by, pair-inside, upper-in, lower-in, upper-within, lower-within, PastFits, past-fits}
+use Rattle.curve.proofs.Limits.{place-within, placed-by, upper-in, lower-in, upper-within, lower-within, PastFits, past-fits}
 use Rattle.curve.proofs.bounds_at.Statement.{statement}
 use Rattle.curve.proofs.bounds_at.Tie as tie
 
@@ -37,17 +37,17 @@ place-requires : tie.Need-place-requires
 place-requires c κs = search needs
 
 -- the frequency that the table is read at, and its place
-abbrev back : tie.Start → ℤ
-back s = movedBack (s .args .reference .0) (s .args .frequency .0)
+abbrev read : tie.Start → ℤ
+read s = movedBack (s .args .reference .0) (s .args .frequency .0)
 
-is-placed : (c : tie.After-place) → c .place .result ≡ placeAt (back (c .before .before .before .before))
+is-placed : (c : tie.After-place) → c .place .result ≡ placeAt (read (c .before .before .before .before))
 is-placed c =
     let t = c .before in
     let a = t .before .before .before .args in
     placed-by (a .reference .0) (a .frequency .0) (toZ-ofZ (sub-past t) ∙ rw (toZ-ofZ (sub-first t), toZ-ofZ (reference-fits t), toZ-ofZ (frequency-fits t))) (c .place .ensures)
 
 place-small : (c : tie.After-place) → c .place .result < lastPlace + 1
-place-small c = let p = is-placed c in omega (arith, place-within (back (c .before .before .before .before)))
+place-small c = let p = is-placed c in omega (arith, place-within (read (c .before .before .before .before)))
 
 mul-k : tie.Need-mul-k
 mul-k c = let p = place-small c in record { fits = omega arith }
@@ -68,10 +68,10 @@ lower-fits : (c : tie.After-lower) → SFits w8 (getD (c .before .before .before
 lower-fits c = search needs
 
 -- the two bounds, as they are read
-upper-is : (c : tie.After-upper) → toZ w8 (ofZ w8 (getD (c .before .before .before .before .pairs .result) (2 * c .before .place .result) (pos 0))) ≡ upperAt (back (c .before .before .before .before .before))
+upper-is : (c : tie.After-upper) → toZ w8 (ofZ w8 (getD (c .before .before .before .before .pairs .result) (2 * c .before .place .result) (pos 0))) ≡ upperAt (read (c .before .before .before .before .before))
 upper-is c = toZ-ofZ (upper-fits c) ∙ upper-in _ (c .before .before .before .before .pairs .ensures) (is-placed (c .before))
 
-lower-is : (c : tie.After-lower) → toZ w8 (ofZ w8 (getD (c .before .before .before .before .before .pairs .result) (2 * c .before .before .place .result + 1) (pos 0))) ≡ lowerAt (back (c .before .before .before .before .before .before))
+lower-is : (c : tie.After-lower) → toZ w8 (ofZ w8 (getD (c .before .before .before .before .before .pairs .result) (2 * c .before .before .place .result + 1) (pos 0))) ≡ lowerAt (read (c .before .before .before .before .before .before))
 lower-is c = toZ-ofZ (lower-fits c) ∙ lower-in _ (c .before .before .before .before .before .pairs .ensures) (is-placed (c .before .before))
 
 cast-upper : tie.Need-cast-upper

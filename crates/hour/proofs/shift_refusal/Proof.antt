@@ -1,4 +1,4 @@
--- `hour::shift_refusal` meets its contract: that of `terms_refusal`, with the two tests of what is shifted. Assumes nothing.
+-- `hour::shift_refusal` meets its contract: that of `terms_refusal`, with the tests of the reference and of what is shifted. Assumes nothing.
 use mir.Syntax.{w64}
 use mir.Val.{SFits}
 use mir.Facts.{toZ-ofZ}

@@ -10,8 +10,8 @@ use Rattle.hours.specs.Hours.{termsOf}
 use Rattle.hours.proofs.terms_of.Statement.{statement}
 use Rattle.hours.proofs.terms_of.Tie as tie
 
-prices-from-requires : tie.Need-prices-from-requires
-prices-from-requires c κs = search needs
+prices-at-requires : tie.Need-prices-at-requires
+prices-at-requires c κs = search needs
 
 array-copy-out-t7 : tie.Need-array-copy-out-t7
 array-copy-out-t7 c = search needs
@@ -36,17 +36,17 @@ unfolding termsOf
 returns c =
     let p = c .before .before .before in
     let head = p .before .args .t2 in
-    let from = p .prices-from .result in
+    let from = p .prices-at .result in
     let n0 : SFits w64 (getD head 0 (pos 0)) = search needs in
     let clearing : SFits w64 (getD head from (pos 0)) = search needs in
     let performance : SFits w64 (getD head (from + 1) (pos 0)) = search needs in
-    rw (toZ-ofZ n0, toZ-ofZ clearing, toZ-ofZ performance, p .prices-from .ensures .0)
+    rw (toZ-ofZ n0, toZ-ofZ clearing, toZ-ofZ performance, p .prices-at .ensures .0)
 
 pub terms-of-spec : {M : Type 1} → statement M
 terms-of-spec =
     tie.close
     (tie.spec
-    prices-from-requires
+    prices-at-requires
     array-copy-out-t7
     mul-t9
     array-copy-out-t12

@@ -6,7 +6,7 @@ use mir.Facts.{toZ-ofZ}
 use borrow.Author.Needs.{needs}
 use Rattle.whole.proofs.Signed.{inside}
 use Rattle.whole.proofs.Sums.{in-within}
-use Rattle.curve.specs.Curve.{movedBack, upperBy, lowerBy, boundsAt}
+use Rattle.curve.specs.Curve.{movedBack, upperBy, lowerBy, boundsBy}
 use Rattle.curve.specs.declared.Bounds.{Bounds}
 use Rattle.curve.proofs.Limits.{upper-within, lower-within, bounds-ordered, fit-curve, curve-granted}
 use Rattle.score.specs.Score.{judgedBy}
@@ -22,7 +22,7 @@ curve-requires : tie.Need-curve-requires
 curve-requires c κs = search needs
 
 -- the two bounds, as they are handed on
-bounds-are : (c : tie.After-curve) → let a = c .before .args in c .curve .result ≡ boundsAt (movedBack (a .reference .0) (a .frequency .0))
+bounds-are : (c : tie.After-curve) → let a = c .before .args in c .curve .result ≡ boundsBy (a .reference .0) (a .frequency .0)
 bounds-are c =
     let s = c .before in
     let f = fit s in

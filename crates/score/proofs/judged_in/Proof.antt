@@ -1,6 +1,6 @@
 -- `score::judged_in` meets its contract: so far past the moved first corner the table has the pair of the frequency moved back. Assumes nothing.
 use Prim.Native.Nat.{_+_, _*_, _<_}
-use mathlib.Core.Path.{_≡_, ap, _∙_}
+use mathlib.Core.Path.{_≡_, _∙_}
 use native.Mathlib.Omega.{arith}
 use lib.IntN.{ℤ, pos}
 use lib.ListN.{getD}
@@ -29,17 +29,17 @@ place-requires : tie.Need-place-requires
 place-requires c κs = search needs
 
 -- the frequency that the table is read at, and its place
-abbrev moved : tie.Start → ℤ
-moved s = movedBack (s .args .reference .0) (s .args .frequency .0)
+abbrev read : tie.Start → ℤ
+read s = movedBack (s .args .reference .0) (s .args .frequency .0)
 
-placed : (c : tie.After-place) → c .place .result ≡ placeAt (moved (c .before .before))
+placed : (c : tie.After-place) → c .place .result ≡ placeAt (read (c .before .before))
 placed c =
     let f = c .before in
     let a = f .before .args in
     placed-by (a .reference .0) (a .frequency .0) (back w64 (f .past-first .ok) (f .past-first .ensures)) (c .place .ensures)
 
 place-small : (c : tie.After-place) → c .place .result < 501
-place-small c = let p = placed c in omega (arith, place-within (moved (c .before .before)))
+place-small c = let p = placed c in omega (arith, place-within (read (c .before .before)))
 
 mul-k : tie.Need-mul-k
 mul-k c = let p = place-small c in record { fits = omega arith }
@@ -60,10 +60,10 @@ lower-fits : (c : tie.After-lower) → SFits w8 (getD (c .before .before .before
 lower-fits c = search needs
 
 -- the two bounds, as they are read
-upper-read : (c : tie.After-upper) → toZ w8 (ofZ w8 (getD (c .before .before .before .args .pairs .now) (2 * c .before .place .result) (pos 0))) ≡ upperAt (moved (c .before .before .before))
+upper-read : (c : tie.After-upper) → toZ w8 (ofZ w8 (getD (c .before .before .before .args .pairs .now) (2 * c .before .place .result) (pos 0))) ≡ upperAt (read (c .before .before .before))
 upper-read c = toZ-ofZ (upper-fits c) ∙ upper-in _ (c .before .before .before .pre .1 .0) (placed (c .before))
 
-lower-read : (c : tie.After-lower) → toZ w8 (ofZ w8 (getD (c .before .before .before .before .args .pairs .now) (2 * c .before .before .place .result + 1) (pos 0))) ≡ lowerAt (moved (c .before .before .before .before))
+lower-read : (c : tie.After-lower) → toZ w8 (ofZ w8 (getD (c .before .before .before .before .args .pairs .now) (2 * c .before .before .place .result + 1) (pos 0))) ≡ lowerAt (read (c .before .before .before .before))
 lower-read c = toZ-ofZ (lower-fits c) ∙ lower-in _ (c .before .before .before .before .pre .1 .0) (placed (c .before .before))
 
 cast-upper : tie.Need-cast-upper
@@ -73,17 +73,17 @@ cast-lower : tie.Need-cast-lower
 cast-lower c = rw (lower-read c) (within-fits w64 tt (lower-within _))
 
 -- as they are handed on
-upper-is : (c : tie.After-upper) → toZ w64 (ofZ w64 (toZ w8 (ofZ w8 (getD (c .before .before .before .args .pairs .now) (2 * c .before .place .result) (pos 0))))) ≡ upperAt (moved (c .before .before .before))
+upper-is : (c : tie.After-upper) → toZ w64 (ofZ w64 (toZ w8 (ofZ w8 (getD (c .before .before .before .args .pairs .now) (2 * c .before .place .result) (pos 0))))) ≡ upperAt (read (c .before .before .before))
 upper-is c = toZ-ofZ (cast-upper c) ∙ upper-read c
 
-lower-is : (c : tie.After-lower) → toZ w64 (ofZ w64 (toZ w8 (ofZ w8 (getD (c .before .before .before .before .args .pairs .now) (2 * c .before .before .place .result + 1) (pos 0))))) ≡ lowerAt (moved (c .before .before .before .before))
+lower-is : (c : tie.After-lower) → toZ w64 (ofZ w64 (toZ w8 (ofZ w8 (getD (c .before .before .before .before .args .pairs .now) (2 * c .before .before .place .result + 1) (pos 0))))) ≡ lowerAt (read (c .before .before .before .before))
 lower-is c = toZ-ofZ (cast-lower c) ∙ lower-read c
 
 by-bounds-requires : tie.Need-by-bounds-requires
 by-bounds-requires c κs =
     let s = c .before .before .before .before in
     let f = fit s in
-    let z = moved s in
+    let z = read s in
     rw (upper-is (c .before), lower-is c) ((in-within (f .power), (in-within (f .transfer), inside (f .capacity))), (s .pre .0, (upper-within z, (lower-within z, bounds-ordered z))))
 
 returns : tie.Need-returns

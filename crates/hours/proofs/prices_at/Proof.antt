@@ -1,9 +1,9 @@
--- `hours::prices_from` meets its contract: by the kind of hour. Assumes nothing.
+-- `hours::prices_at` meets its contract: by the kind of hour. Assumes nothing.
 use native.Mathlib.Omega.{arith}
 use mathlib.Core.Path.{refl}
 use borrow.Author.Needs.{needs}
-use Rattle.hours.proofs.prices_from.Statement.{statement}
-use Rattle.hours.proofs.prices_from.Tie as tie
+use Rattle.hours.proofs.prices_at.Statement.{statement}
+use Rattle.hours.proofs.prices_at.Tie as tie
 
 enum-told : tie.Need-enum-told
 enum-told c = search needs
@@ -23,5 +23,5 @@ returns-2 c = rw (c .enum-told2 .given .1) (refl, omega arith)
 returns-3 : tie.Need-returns-3
 returns-3 c = rw (c .enum-told3 .given .1) (refl, omega arith)
 
-pub prices-from-spec : {M : Type 1} → statement M
-prices-from-spec = tie.close (tie.spec enum-told enum-told-2 enum-told-3 returns returns-2 returns-3)
+pub prices-at-spec : {M : Type 1} → statement M
+prices-at-spec = tie.close (tie.spec enum-told enum-told-2 enum-told-3 returns returns-2 returns-3)
