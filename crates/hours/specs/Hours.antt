@@ -87,7 +87,7 @@ pub record Basis : Type 0 where
   pub hour : WholeHour
   pub state : EventState
 
--- CAPACITY; for dReg and E-dReg REFERENCE, "directly after CAPACITY" (document 02, #107), which sReg does not move; CLEARING PERFORMANCE
+-- CAPACITY; for dReg and E-dReg REFERENCE (document 02, #107), directly after it, which sReg has not; CLEARING PERFORMANCE
 abbrev pub pricesAt : words.Hour → ℕ
 pricesAt Dreg = 2
 pricesAt Edreg = 2
