@@ -11,7 +11,7 @@ use lib.Dec.{leb}
 use lib.ListN.{length, take, replicate, length-replicate}
 use lib.Seq.{take-append_seam}
 use contract.Lifetimes.{Lfts}
-use denote.Ref.{Bor}
+use denote.Ref.{Bor, MutBor}
 use denote.Triple.Clauses.{AtExit}
 use borrow.Fn.Kinds.{Dens, ended_of}
 use borrow.Author.Tests.{le-leb}
@@ -173,6 +173,9 @@ finish_accepted κs a r s p reached long =
 abbrev lend : {X : Type 0} → X → Bor X
 lend x = record { ref_ptr = (0, 0); now = x }
 
+abbrev lend_mut : {X : Type 0} → X → MutBor X
+lend_mut x = record { ref_ptr = (0, 0); ghost_name = 0; now = x }
+
 module _ (state : Progress) (chunk : List ℕ) (marks : List Bool) (amounts : List ℤ) (k : book_refusal (book_of state.cover marks amounts) ≡ 0) where
   room_for : ℕ
   room_for = 12 * (length chunk + length (chunk_text state chunk marks amounts))
@@ -201,9 +204,9 @@ module _ (state : Progress) (chunk : List ℕ) (marks : List Bool) (amounts : Li
       let short : (fed_of state chunk marks amounts run).written ≤ length run = omega (arith, run_long, ap (λ (r : Fed). r.written) run_granted) in
       record {
         κs = ([], ([], ([], ([], tt))));
-        handed = (state, (lend chunk, (lend marks, (lend amounts, (lend run, tt)))));
+        handed = (state, (lend chunk, (lend_mut marks, (lend_mut amounts, (lend_mut run, tt)))));
         answer = fed_of state chunk marks amounts run;
-        left = (state, (lend chunk, (lend (fed_marks state chunk marks amounts run), (lend (fed_amounts state chunk marks amounts run), (lend (fed_out state chunk marks amounts run), tt)))));
+        left = (state, (lend chunk, (lend_mut (fed_marks state chunk marks amounts run), (lend_mut (fed_amounts state chunk marks amounts run), (lend_mut (fed_out state chunk marks amounts run), tt)))));
         post = (refl, (refl, (refl, (refl, short))));
         accepted = accepted;
         is_state_lem = refl;
@@ -239,9 +242,9 @@ module _ (state : Progress) (marks : List Bool) (amounts : List ℤ) (k : book_r
       let short : (finished_of state marks amounts end_run_lem).written ≤ length end_run_lem = omega (arith, end_long, ap (λ (r : Finished). r.written) granted) in
       record {
         κs = ([], ([], ([], tt)));
-        handed = (state, (lend marks, (lend amounts, (lend end_run_lem, tt))));
+        handed = (state, (lend_mut marks, (lend_mut amounts, (lend_mut end_run_lem, tt))));
         answer = finished_of state marks amounts end_run_lem;
-        left = (state, (lend (end_marks state marks amounts end_run_lem), (lend (end_amounts state marks amounts end_run_lem), (lend (end_out state marks amounts end_run_lem), tt))));
+        left = (state, (lend_mut (end_marks state marks amounts end_run_lem), (lend_mut (end_amounts state marks amounts end_run_lem), (lend_mut (end_out state marks amounts end_run_lem), tt))));
         post = (refl, (refl, (refl, (refl, short))));
         accepted = accepted;
         is_state_lem = refl;

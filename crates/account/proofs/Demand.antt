@@ -11,7 +11,7 @@ use lib.IntN.{ℤ, pos}
 use lib.ListN.{take, length-replicate}
 use borrow.Author.Tests.{eqb-true, eq-eqb}
 use Rattle.whole.specs.Choice.{pick, kept}
-use Rattle.whole.proofs.Choice.{by-test, both, passed}
+use Rattle.whole.proofs.Choice.{by_test, both, passed}
 use Rattle.history.specs.Rules.{Call}
 use Rattle.history.specs.Board.{fresh, handed}
 use Rattle.history.specs.Inner.{runs_fit, open_ruling}
@@ -81,7 +81,7 @@ opened_next : (book : Book) (a : Account) (days : ℕ) → Agrees a.month a.hist
     Agrees next.month next.history (open_book book days)
 unfolding open_book
 opened_next book a days g =
-    by-test (eqb (open_refusal book days) 0)
+    by_test (eqb (open_refusal book days) 0)
     (λ (t : eqb (open_refusal book days) 0 ≡ true).
     let n : open_number a.month days ≡ 0 = sym number ∙ eqb-true (open_refusal book days) 0 t in
     let i = opens a.month n in
@@ -107,7 +107,7 @@ line_number_lem book a (Refused n) g = refl
 line_next : (book : Book) (a : Account) (r : Reading) → Agrees a.month a.history book → Agrees (account_in month_rules a r).month (account_in month_rules a r).history (book_in book r)
 unfolding frame_book
 line_next book a (Frame e) g =
-    by-test (eqb e.kind open_kind)
+    by_test (eqb e.kind open_kind)
     (λ (t : eqb e.kind open_kind ≡ true). rw t (opened_next book a e.day g))
     (λ (t : eqb e.kind open_kind ≡ false). rw t (asked_next book a.month a.history (call_of e) g))
 line_next book a (Refused n) g = g

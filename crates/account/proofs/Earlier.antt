@@ -11,7 +11,7 @@ use lib.ListN.{replicate}
 use borrow.Author.Tests.{ne_eqb}
 use Rattle.whole.specs.Choice.{pick, kept}
 use Rattle.whole.specs.Folds.{sum_to}
-use Rattle.whole.proofs.Choice.{by-test, kept_any}
+use Rattle.whole.proofs.Choice.{by_test, kept_any}
 use Rattle.units.specs.Limits.{month_places}
 use Rattle.history.specs.Rules.{Call, post, replace, withdraw, loss_fee, close, ruling}
 use Rattle.history.specs.History.{Recorded, stands, read_as, is_closed, leaves, last_item, fee_after, last_fee, ruling_after, earned_is}
@@ -150,7 +150,7 @@ asked_unset (some days) h (some c) s u = kept_any (λ (z : ℤ). z ≡ pos 0) (r
 line_unset : (a : Account) (r : Reading) → NotExcess r → Unset a.month a.history → Unset (account_in month_rules a r).month (account_in month_rules a r).history
 unfolding last_fee
 line_unset a (Frame e) f u =
-    by-test (eqb e.kind open_kind)
+    by_test (eqb e.kind open_kind)
     (λ (t : eqb e.kind open_kind ≡ true). rw t (kept_any (λ (n : Account). Unset n.month n.history) (open_number a.month e.day) (λ _. refl) u))
     (λ (t : eqb e.kind open_kind ≡ false). rw t (asked_unset a.month a.history (call_of e) (spares e (f e refl)) u))
 line_unset a (Refused n) f u = u

@@ -10,7 +10,7 @@ use lib.IntN.{ℤ, pos}
 use lib.ListN.{length, take, replicate}
 use borrow.Author.Tests.{eq-eqb, ne_eqb, ltb-true, ltb-false}
 use Rattle.whole.specs.Choice.{pick}
-use Rattle.whole.proofs.Choice.{by-test}
+use Rattle.whole.proofs.Choice.{by_test}
 use Rattle.units.specs.Limits.{month_places}
 use Rattle.history.specs.Board.{fresh}
 use Rattle.head.proofs.Heads.{fresh_in}
@@ -69,7 +69,7 @@ lines_from l xs = lines_in l xs ++ last_in (left_in l xs)
 last_by : (l : Line) (cur : List ℕ) → Shows l cur → last_in l ≡ map (take 25) (pick (eqb (length cur) 0) [] (cur ∷ []))
 unfolding last_in
 last_by l cur s =
-    by-test (ltb 0 (length cur))
+    by_test (ltb 0 (length cur))
     (λ (t : ltb 0 (length cur) ≡ true).
     let h = ltb-true 0 (length cur) t in
     rw (ne_eqb (length cur) 0 (λ e. omega arith), ne_eqb l.len 0 (λ e. omega (arith, s.len)), s.held))
@@ -179,7 +179,7 @@ output_transcript cs =
 ended_lines : (l : Line) (xs : List ℕ) → length (lines_in l xs) ≡ line_ends xs
 ended_lines l [] = refl
 ended_lines l (x ∷ xs) =
-    by-test (eqb x line_end)
+    by_test (eqb x line_end)
     (λ (t : eqb x line_end ≡ true). rw t (ap suc (ended_lines empty_line xs)))
     (λ (t : eqb x line_end ≡ false). rw t (ended_lines (pushed l x) xs))
 
@@ -192,7 +192,7 @@ count_next book l = (
 count_all : (book : Book) (ls : List (List ℕ)) → most_lines ≤ book.count + length ls → most_lines ≤ (book_after_all book ls).count
 count_all book [] h = omega arith
 count_all book (l ∷ ls) h =
-    by-test (ltb book.count most_lines)
+    by_test (ltb book.count most_lines)
     (λ (t : ltb book.count most_lines ≡ true).
     let n = (count_next book l).1 (ltb-true book.count most_lines t) in count_all (book_after book l) ls (omega arith))
     (λ (t : ltb book.count most_lines ≡ false).

@@ -1,1 +1,2 @@
 // From the program's input to what it prints: definitions and theorems alone.
+#![tactic(auto)]

@@ -8,7 +8,7 @@ use mathlib.Core.List.{List, [], ◌∷◌}
 use lib.IntN.{ℤ}
 use lib.ListN.{length, get_or, drop, set, length-set}
 use Rattle.whole.specs.Choice.{pick}
-use Rattle.whole.proofs.Choice.{by-test, kept_any}
+use Rattle.whole.proofs.Choice.{by_test, kept_any}
 use Rattle.whole.proofs.Runs.{rest, no_rest}
 use Rattle.tokens.specs.Bytes.{parts}
 use Rattle.tokens.specs.Tokens.{token_number, step_of}
@@ -28,7 +28,7 @@ length_stored count token run =
 pub length_stepped : (state : State) (b : ℕ) (run : List ℤ) → length (run_stepped state b run) ≡ length run
 unfolding run_stepped
 length_stepped state b run =
-    by-test (parts b)
+    by_test (parts b)
     (λ (t : parts b ≡ true). rw t (length_stored state.asked.count state.token run))
     (λ (t : parts b ≡ false). rw t)
 
@@ -95,7 +95,7 @@ module _ {start : State} {chunk : List ℕ} {begun : List ℤ} {reached : State}
 pub taken_within : (state : State) (chunk : List ℕ) → taken_in state chunk ≤ length chunk
 taken_within state [] = omega arith
 taken_within state (b ∷ bs) =
-    by-test (begins state b)
+    by_test (begins state b)
     (λ (t : begins state b ≡ true). rw t (omega arith))
     (λ (t : begins state b ≡ false). rw t (omega (arith, taken_within (stepped state b) bs)))
 
@@ -103,6 +103,6 @@ taken_within state (b ∷ bs) =
 pub read_taken : (state : State) (chunk : List ℕ) (run : List ℤ) → (read_of state chunk run).taken ≤ length chunk
 unfolding read_of reached_of
 read_taken state chunk run =
-    by-test (is_run run)
+    by_test (is_run run)
     (λ (t : is_run run ≡ true). rw t (taken_within state chunk))
     (λ (t : is_run run ≡ false). rw t (omega arith))

@@ -7,7 +7,7 @@ use lib.Dec.{eqb, ltb}
 use lib.IntN.{ℤ}
 use borrow.Author.Tests.{ltb-true}
 use Rattle.whole.specs.Choice.{pick, unless}
-use Rattle.whole.proofs.Choice.{by-test, passed, both_passed}
+use Rattle.whole.proofs.Choice.{by_test, passed, both_passed}
 use Rattle.tokens.specs.Tokens.{token_number}
 use Rattle.tokens.specs.declared.Token.{Token}
 use Rattle.asked.specs.Asking.{most_numbers, asking, fault_in, token_fault, named}
@@ -24,7 +24,7 @@ kept_room_lem count token h =
 pub count_asking : (asked : Asked) (line : ℕ) → (asking asked line).count ≡ asked.count
 unfolding asking named
 count_asking asked line =
-    by-test asked.opened
+    by_test asked.opened
     (λ (t : asked.opened ≡ true). rw t)
     (λ (t : asked.opened ≡ false). rw t)
 

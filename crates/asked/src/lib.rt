@@ -1,5 +1,7 @@
 // Reading questions: bytes in, in chunks of any size; one question at a time out, with its word, its numbers in a
 // lent run, and its first fault. What a question means is not known here.
+#![tactic(auto)]
+
 ghost use Rattle.std.specs.Prelude.{◌≡◌, length};
 ghost use Rattle.whole.specs.Choice.{pick};
 ghost use Rattle.tokens.specs.Tokens.{step_of};
@@ -15,7 +17,7 @@ use words::faults;
 pub const MOST: usize = 8192;
 
 // A question that is read, or has ended.
-#[derive(Drop)]
+#[derive(Clone, Copy)]
 pub struct Asked {
     // whether a token of it has ended
     pub opened: bool,
@@ -33,7 +35,7 @@ pub struct Asked {
 }
 
 // What goes from chunk to chunk.
-#[derive(Drop)]
+#[derive(Clone, Copy)]
 pub struct State {
     pub asked: Asked,
     pub token: Token,
@@ -42,7 +44,7 @@ pub struct State {
 
 // How far a chunk was read, or what the input's end came to: the question, the state to go on with, how many bytes
 // were taken, and whether the question has ended.
-#[derive(Drop)]
+#[derive(Clone, Copy)]
 pub struct Reached {
     pub refusal: u8,
     pub asked: Asked,

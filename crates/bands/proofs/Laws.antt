@@ -12,7 +12,7 @@ use lib.Signed.{le_z}
 use borrow.Author.Tests.{eqb-true, eq-eqb, leb-true, leb-false, le-leb}
 use Rattle.whole.specs.Choice.{pick}
 use Rattle.whole.specs.Whole.{Within, in_range, all_in_range}
-use Rattle.whole.proofs.Choice.{clash, and_both, by-test, all_passed}
+use Rattle.whole.proofs.Choice.{clash, and_both, by_test, all_passed}
 use Rattle.whole.proofs.Signed.{inside, opposite, le_z_holds}
 use Rattle.whole.proofs.Sums.{all_inside}
 use Rattle.units.specs.Limits.{most_score, least_factor, most_factor, is_factor, most_bands}
@@ -72,20 +72,20 @@ place_least : (ts : List ℤ) (rate : ℤ) (k : ℕ) → k < length ts → le_z 
 place_least [] rate k h e = absurd (omega arith)
 place_least (t ∷ ts) rate zero h e = omega (arith, place_first t ts rate e)
 place_least (t ∷ ts) rate (suc k) h e =
-    by-test (le_z t rate) (λ (y : le_z t rate ≡ true). omega (arith, place_first t ts rate y))
+    by_test (le_z t rate) (λ (y : le_z t rate ≡ true). omega (arith, place_first t ts rate y))
     (λ (n : le_z t rate ≡ false). let l : first_place ts rate ≤ k = place_least ts rate k (omega arith) e in omega (arith, place_later t ts rate n))
 
 place_reached : (ts : List ℤ) (rate : ℤ) → first_place ts rate < length ts → le_z (get_or ts (first_place ts rate) (pos 0)) rate ≡ true
 place_reached [] rate h = absurd (omega arith)
 place_reached (t ∷ ts) rate h =
-    by-test (le_z t rate) (λ (y : le_z t rate ≡ true). rw (place_first t ts rate y) y)
+    by_test (le_z t rate) (λ (y : le_z t rate ≡ true). rw (place_first t ts rate y) y)
     (λ (n : le_z t rate ≡ false). rw (place_later t ts rate n) (place_reached ts rate (omega (arith, place_later t ts rate n))))
 
 place_before : (ts : List ℤ) (rate : ℤ) (i : ℕ) → i < first_place ts rate → le_z (get_or ts i (pos 0)) rate ≡ false
 unfolding first_place
 place_before [] rate i h = absurd (omega arith)
 place_before (t ∷ ts) rate i h =
-    by-test (le_z t rate) (λ (y : le_z t rate ≡ true). absurd (omega (arith, place_first t ts rate y)))
+    by_test (le_z t rate) (λ (y : le_z t rate ≡ true). absurd (omega (arith, place_first t ts rate y)))
     (λ (n : le_z t rate ≡ false). at i n (omega (arith, place_later t ts rate n)) (place_before ts rate))
   where
     at : (i : ℕ) → le_z t rate ≡ false → i < suc (first_place ts rate) → ((k : ℕ) → k < first_place ts rate → le_z (get_or ts k (pos 0)) rate ≡ false) → le_z (get_or (t ∷ ts) i (pos 0)) rate ≡ false
@@ -105,7 +105,7 @@ pub first_only : {thresholds factors : List ℤ} {rate place : ℕ} → First th
 first_only {thresholds} {factors} {rate} {place} f =
     let found = first_place thresholds (pos rate) in
     let below : found ≤ place = place_least thresholds (pos rate) place f.there f.reached in
-    by-test (leb place found) (λ (y : leb place found ≡ true). omega (arith, leb-true place found y))
+    by_test (leb place found) (λ (y : leb place found ≡ true). omega (arith, leb-true place found y))
     (λ (n : leb place found ≡ false).
     let l : found < place = leb-false place found n in
     let h : found < length thresholds = omega (arith, f.there) in

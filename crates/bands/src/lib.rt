@@ -1,4 +1,6 @@
 // The quality bands: which factor a rate brings.
+#![tactic(auto)]
+
 ghost use Rattle.std.specs.Prelude.{◌≡◌};
 ghost use Rattle.bands.specs.Bands.{fall, last_threshold, bands_fit, bands_refusal, first_place, with_factor, factor_answer};
 
@@ -8,7 +10,7 @@ use units::limits;
 const MOST_THRESHOLD: i64 = limits::SCORE as i64;
 
 // A factor in tenths, or the number of its refusal with 0.
-#[derive(Drop)]
+#[derive(Clone, Copy)]
 pub struct Factored {
     pub refusal: u8,
     pub factor: i64,

@@ -10,7 +10,7 @@ use lib.ListN.{length, set, replicate}
 use borrow.Author.Tests.{eqb-true}
 use Rattle.whole.specs.Choice.{pick, unless}
 use Rattle.whole.specs.Whole.{in_range}
-use Rattle.whole.proofs.Choice.{by-test, and_both, all_passed, kept_new, kept_old}
+use Rattle.whole.proofs.Choice.{by_test, and_both, all_passed, kept_new, kept_old}
 use Rattle.units.specs.Limits.{is_days, month_places}
 use Rattle.units.specs.Refusals.{wrong_length, bad_money, not_in_month}
 use Rattle.history.specs.Rules.{Call, Deed, left}
@@ -22,6 +22,7 @@ use Rattle.head.specs.Inner.{place_of, board_in, fresh_head, opened_head}
 use Rattle.head.specs.declared.Head.{Head}
 use Rattle.head.specs.declared.Headed.{Headed}
 use Rattle.head.proofs.HourPlaces.{place_for}
+use Rattle.board.specs.Inner.{opened_on}
 use Rattle.board.specs.Board.{place_ruled, place_handed, opened_in, told_of}
 
 module _ (head : Head) (ms : List Bool) (xs : List ℤ) (place : ℕ) (deed : Deed Item) (k : ℕ) (is : k ≡ place_ruled head ms xs place deed) where
@@ -51,7 +52,7 @@ module _ (days : ℕ) (ms : List Bool) (xs : List ℤ) where
   pub open_number_lem : (opened_in days ms xs).refusal ≡ open_ruling (month_rules days) before_open
   unfolding opened_in opened_head open_ruling
   open_number_lem =
-      by-test (runs_fit (month_rules days) before_open)
+      by_test (runs_fit (month_rules days) before_open)
       (λ (t : runs_fit (month_rules days) before_open ≡ true). rw t)
       (λ (t : runs_fit (month_rules days) before_open ≡ false). rw t)
 
@@ -75,9 +76,9 @@ module _ (days : ℕ) (ms : List Bool) (xs : List ℤ) where
   pub open_none : ((opened_in days ms xs).refusal ≡ 0 → ⊥) → (opened_in days ms xs).head ≡ fresh_head 0
   unfolding opened_in opened_head
   open_none f =
-      by-test (runs_fit (month_rules days) before_open)
+      by_test (runs_fit (month_rules days) before_open)
       (λ (t : runs_fit (month_rules days) before_open ≡ true).
-      by-test (is_days days) (λ (d : is_days days ≡ true). absurd (f (rw (t, d)))) (λ (d : is_days days ≡ false). rw (t, d)))
+      by_test (is_days days) (λ (d : is_days days ≡ true). absurd (f (rw (t, d)))) (λ (d : is_days days ≡ false). rw (t, d)))
       (λ (t : runs_fit (month_rules days) before_open ≡ false). rw t)
 
   pub open_cleared : (opened_in days ms xs).refusal ≡ 0
@@ -91,6 +92,26 @@ module _ (days : ℕ) (ms : List Bool) (xs : List ℤ) where
         ap (λ (n : ℕ). replicate n false) (eqb-true (length ms) month_places long.0) ∙ ap (λ (b : Board Fee Bool ℤ). b.marks) new,
         ap (λ (n : ℕ). replicate n (pos 0)) (eqb-true (length xs) month_places long.1) ∙ ap (λ (b : Board Fee Bool ℤ). b.amounts) new,
       )
+
+-- the same as `open_in` comes to it: what it answers, and each run it leaves, cleared or as it was
+module _ (days : ℕ) (ms : List Bool) (xs : List ℤ) (h : Headed) (is : h ≡ opened_on days (length ms) (length xs)) where
+  pub opened_answer : h ≡ opened_in days ms xs
+  unfolding opened_in
+  opened_answer = is
+
+  pub opened_marks : h.refusal ≡ 0 → (open_left (month_rules days) (board_in (fresh_head days) ms xs)).marks ≡ replicate (length ms) false
+  opened_marks z = sym (open_cleared days ms xs (sym (ap (λ (x : Headed). x.refusal) opened_answer) ∙ z)).0
+
+  pub opened_amounts : h.refusal ≡ 0 → (open_left (month_rules days) (board_in (fresh_head days) ms xs)).amounts ≡ replicate (length xs) (pos 0)
+  opened_amounts z = sym (open_cleared days ms xs (sym (ap (λ (x : Headed). x.refusal) opened_answer) ∙ z)).1
+
+  pub unopened_marks : (h.refusal ≡ 0 → ⊥) → ms ≡ (open_left (month_rules days) (board_in (fresh_head days) ms xs)).marks
+  unopened_marks f = ap (λ (b : Board Fee Bool ℤ). b.marks) (open_refused days ms xs (λ z. f (ap (λ (x : Headed). x.refusal) opened_answer ∙ z)))
+
+  pub unopened_amounts : (h.refusal ≡ 0 → ⊥) → xs ≡ (open_left (month_rules days) (board_in (fresh_head days) ms xs)).amounts
+  unopened_amounts f = ap (λ (b : Board Fee Bool ℤ). b.amounts) (open_refused days ms xs (λ z. f (ap (λ (x : Headed). x.refusal) opened_answer ∙ z)))
+
+pub ruleset opening = (opened_answer, opened_marks, opened_amounts, unopened_marks, unopened_amounts)
 
 -- the total: a refusal has no amount beside it
 module _ (days : ℕ) (b : Board Fee Bool ℤ) where

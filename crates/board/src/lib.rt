@@ -1,6 +1,8 @@
 // The month ledger's calls in place, on two lent runs (marks and amounts, in dollars) with the head by value.
 // Anything may be lent: a call refuses runs that are not the ledger's by their lengths (1) and a head that no run of
 // calls hands back (22); `check_in` and `total_in` test the places too.
+#![tactic(auto)]
+
 ghost use Rattle.std.specs.Prelude.{◌≡◌, false, ◌&&◌, eqb, pos, length, get_or, set, replicate};
 ghost use Rattle.whole.specs.Choice.{in_order};
 ghost use Rattle.units.specs.Limits.{month_places};
@@ -16,7 +18,7 @@ use head::{Head, Headed};
 use units::{Dollars, limits, refusals};
 
 // What a read-out answers.
-#[derive(Drop)]
+#[derive(Clone, Copy)]
 pub struct Told {
     pub refusal: u8,
     pub amount: Dollars,
@@ -71,6 +73,7 @@ pub fn withdraw_in(head: Head, marks: &mut [bool], amounts: &mut [i64], place: u
 }
 
 // Opens a month: both runs are cleared.
+#[tactic(auto, using(crate::proofs::Core::opening))]
 pub fn open_in(days: u8, marks: &mut [bool], amounts: &mut [i64]) -> Headed
     ensures answers { result ≡ opened_in days marks.old amounts.old }
     ensures marks { marks.new ≡ (open_left (month_rules days) (board_in (fresh_head days) marks.old amounts.old)).marks }

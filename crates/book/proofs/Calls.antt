@@ -8,7 +8,7 @@ use lib.Dec.{eqb}
 use lib.IntN.{ℤ}
 use borrow.Author.Tests.{eq-eqb, ne_eqb, eqb-true, eqb-false}
 use Rattle.whole.specs.Choice.{pick}
-use Rattle.whole.proofs.Choice.{clash, by-test, kept_new, kept_old}
+use Rattle.whole.proofs.Choice.{clash, by_test, kept_new, kept_old}
 use Rattle.units.specs.Refusals.{wrong_length, not_open}
 use Rattle.history.specs.Rules.{Call, post, replace, withdraw, loss_fee, close}
 use Rattle.history.specs.Board.{Board, fresh}
@@ -104,7 +104,7 @@ module _ (cover : Cover) (ms : List Bool) (xs : List ℤ) where
   head_called : (c : Call Fee Item) → cover.opened ≡ true → (runs_are ≡ true → Heads cover.head ms xs c)
       → Came (some c) (head_taken cover runs_are (some c)).refusal (book_of (head_taken cover runs_are (some c)).cover ms xs)
   head_called c o h =
-      by-test runs_are
+      by_test runs_are
       (λ (t : runs_are ≡ true). let n = h t in rw t (called c _ ms xs _ o n.number n.board n.days))
       (λ (t : runs_are ≡ false). rw t (called_1 c o t))
 
@@ -156,7 +156,7 @@ module _ (cover : Cover) (ms : List Bool) (xs : List ℤ) where
     unfolding open_left
     opened_by headed taken ns ys o e h m x =
         subst (λ (t : Taken). Opened t.refusal (book_of t.cover ns ys)) (sym e)
-        (by-test (eqb k 0)
+        (by_test (eqb k 0)
         (λ (t : eqb k 0 ≡ true).
         let z = eqb-true k 0 t in
         let head = ap (λ (h : Headed). h.head) h ∙ open_head days ms xs (open_number_lem days ms xs ∙ z) in

@@ -4,7 +4,7 @@ use mathlib.Core.Bool.{true, false}
 use mathlib.Core.Option.{Option, none, some}
 use lib.Dec.{eqb}
 use Rattle.whole.specs.Refused.{RefusedKeeps}
-use Rattle.whole.proofs.Choice.{by-test, kept_old}
+use Rattle.whole.proofs.Choice.{by_test, kept_old}
 use Rattle.history.specs.Rules.{Call}
 use Rattle.history.specs.Inner.{ruled_in, handed_in}
 use Rattle.head.specs.Rules.{Fee, Item, month_rules}
@@ -22,7 +22,7 @@ asked_same : (book : Book) (c : Option (Call Fee Item)) → (asked_refusal book 
 unfolding call_refusal call_book handed_in
 asked_same book none f = refl
 asked_same book (some c) f =
-    by-test book.opened
+    by_test book.opened
     (λ (o : book.opened ≡ true).
     let same = kept_old {k = ruled_in (month_rules book.days) book.board c} _ book.board (λ z. f (rw o z)) in
     rw o (λ i. record { count = book.count; opened = true; days = book.days; board = same i }))
@@ -31,7 +31,7 @@ asked_same book (some c) f =
 reading_same : (book : Book) (r : Reading) → (reading_refusal book r ≡ 0 → ⊥) → book_in book r ≡ book
 unfolding frame_refusal frame_book open_book
 reading_same book (Frame e) f =
-    by-test (eqb e.kind open_kind)
+    by_test (eqb e.kind open_kind)
     (λ (t : eqb e.kind open_kind ≡ true). rw t (kept_old _ book (λ z. f (rw t z))))
     (λ (t : eqb e.kind open_kind ≡ false). rw t (asked_same book (call_of e) (λ z. f (rw t z))))
 reading_same book (Refused n) f = refl

@@ -1,5 +1,7 @@
 // One line of the program `ledger`, read as a frame and taken to the ledger. The month's places are two lent runs,
 // marks and amounts; the rest goes by value from line to line.
+#![tactic(auto)]
+
 ghost use Rattle.std.specs.Prelude.{◌≡◌, true};
 ghost use Rattle.head.specs.Inner.{board_in};
 ghost use Rattle.frame.specs.Kinds.{uses_hour};
@@ -12,7 +14,7 @@ use head::{Head, Headed};
 use units::{Dollars, limits, refusals};
 
 // What goes from line to line, the month's places left out.
-#[derive(Drop)]
+#[derive(Clone, Copy)]
 pub struct Cover {
     pub count: u64,
     pub opened: bool,
@@ -20,7 +22,7 @@ pub struct Cover {
 }
 
 // What a line comes to.
-#[derive(Drop)]
+#[derive(Clone, Copy)]
 pub struct Taken {
     pub refusal: u8,
     pub cover: Cover,
@@ -150,6 +152,7 @@ fn call_place(head: Head, entry: Entry, marks: &mut [bool], amounts: &mut [i64])
 }
 
 // The calls that touch no place. Any other kind is no call.
+#[tactic(auto, using(std::proofs::lemmas::Bool::Decides::nat_tests))]
 fn call_head(cover: Cover, kind: u8, amount: Dollars, runs: bool) -> Taken
     ensures { result ≡ head_taken cover runs (head_call kind amount.0) }
 {

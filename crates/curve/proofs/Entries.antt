@@ -10,7 +10,7 @@ use lib.IntN.{ℤ, pos}
 use lib.ListN.{length, get_or}
 use Rattle.whole.specs.Choice.{pick}
 use Rattle.whole.specs.Whole.{in_range}
-use Rattle.whole.proofs.Choice.{by-test}
+use Rattle.whole.proofs.Choice.{by_test}
 use Rattle.whole.proofs.Signed.{signed, inside}
 use Rattle.curve.specs.Curve.{upper_at, lower_at, first_frequency, last_place, pairs_from, pairs_of}
 
@@ -28,7 +28,7 @@ all_agree [] [] l e = refl
 all_agree [] (y ∷ ys) l e = absurd (omega arith)
 all_agree (x ∷ xs) [] l e = absurd (omega arith)
 all_agree (x ∷ xs) (y ∷ ys) l e =
-    by-test (in_range y y x)
+    by_test (in_range y y x)
     (λ (t : in_range y y x ≡ true). let a : suc (agreed xs ys) ≡ suc (length ys) = rw t at e in ap₂ (λ z zs. z ∷ zs) (equal x y t) (all_agree xs ys (omega arith) (omega arith)))
     (λ (t : in_range y y x ≡ false). let a : 0 ≡ suc (length ys) = rw t at e in absurd (omega arith))
 

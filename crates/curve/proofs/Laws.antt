@@ -7,8 +7,9 @@ use native.Mathlib.Omega.{arith}
 use lib.IntN.{ℤ, pos, negsuc, ◌+ℤ◌, ◌-ℤ◌}
 use lib.Signed.{le_z}
 use Rattle.whole.specs.Whole.{minus, up, down, nearest, with_sign, half_up}
-use Rattle.whole.proofs.Choice.{by-test}
-use Rattle.whole.proofs.Signed.{signed, sum, difference}
+use Rattle.whole.proofs.Choice.{by_test}
+use mir.Facts.{to_z-of_z}
+use Rattle.whole.proofs.Signed.{signed, size, sum, difference}
 use Rattle.units.specs.Limits.{nominal}
 use Rattle.curve.specs.Curve.{reach, Corner, corner, at_distance, upper_at, lower_at, moved_back, first_frequency, last_place}
 use Rattle.curve.specs.Inner.{past_first, place_past, place_by, place_at}
@@ -29,6 +30,9 @@ above_zero (negsuc n) = omega arith
 pub placed : (steps : ℤ) → place_past steps ≡ min (up steps - down steps) last_place
 unfolding place_past
 placed steps = omega (arith, above_zero steps)
+
+-- what `place` goes by: the definition by its two tests, and a number by its bits
+pub ruleset placing = (signed, placed, size, to_z-of_z)
 
 by_distance : (d : ℤ) → place_by d ≡ min ((up d + reach) - down d) last_place
 by_distance d = omega (arith, sum d (pos reach), placed (d +ℤ pos reach))
@@ -66,12 +70,12 @@ module _ (percent : Corner → ℤ) (ends : Ends percent) where
 
   pub clipped : (d : ℤ) → at_distance percent (clip d) ≡ at_distance percent d
   clipped d =
-      by-test (le_z d (minus reach))
+      by_test (le_z d (minus reach))
       (λ (t : le_z d (minus reach) ≡ true).
       let e : clip d ≡ minus reach = omega (signed, clip_is d, by_distance d) in
       ap (at_distance percent) e ∙ sym (before d t))
       (λ (t : le_z d (minus reach) ≡ false).
-      by-test (le_z d (pos reach))
+      by_test (le_z d (pos reach))
       (λ (u : le_z d (pos reach) ≡ true).
       let e : clip d ≡ d = omega (signed, clip_is d, by_distance d) in
       ap (at_distance percent) e)

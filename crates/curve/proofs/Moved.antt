@@ -11,7 +11,7 @@ use denote.Triple.Clauses.{AtExit}
 use borrow.Fn.Kinds.{ended_of}
 use Rattle.whole.specs.Whole.{minus, in_range, nearest, with_sign, half_up}
 use Rattle.whole.proofs.Bounds.{in_range_lem}
-use Rattle.whole.proofs.Choice.{by-test}
+use Rattle.whole.proofs.Choice.{by_test}
 use Rattle.whole.proofs.Signed.{signed, sum, difference, inside}
 use Rattle.units.specs.Limits.{nominal, is_reference, is_frequency}
 use Rattle.units.specs.Units.{millihertz}
@@ -47,7 +47,7 @@ unmoved_fits = refl
 pub unmoved_curve : (f : Millihertz) → curve_at f unmoved ≡ curve_unmoved f
 unfolding curve_at curve_refusal curve_unmoved
 unmoved_curve f =
-    by-test (is_frequency f.0)
+    by_test (is_frequency f.0)
     (λ (t : is_frequency f.0 ≡ true). rw (unmoved_fits, t, back_unmoved f.0))
     (λ (t : is_frequency f.0 ≡ false). rw (unmoved_fits, t))
 

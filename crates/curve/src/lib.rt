@@ -1,5 +1,7 @@
 // The power curve (document 001, table 1): a frequency's upper and lower power in percent of capacity, by a reference
 // that may be moved.
+#![tactic(auto)]
+
 ghost use Rattle.std.specs.Prelude.{◌≡◌};
 ghost use Rattle.curve.specs.Curve.{curve_refusal, curve_at, bounds_by, pairs_of};
 ghost use Rattle.curve.specs.Moved.{CurveFits};
@@ -21,7 +23,7 @@ const LAST_PLACE: usize = SPAN as usize;
 const ENTRIES: usize = 4 * REACH as usize + 2;
 
 // The two bounds of a frequency, or its refusal with zeros.
-#[derive(Drop)]
+#[derive(Clone, Copy)]
 pub struct Bounds {
     pub refusal: u8,
     pub upper: i64,
@@ -57,6 +59,7 @@ fn refusal(frequency: Millihertz, reference: Millihertz) -> u8
 }
 
 // The place among the table's pairs that is read so many millihertz past the first corner: the nearer end outside.
+#[tactic(auto, using(crate::proofs::Laws::placing))]
 pub fn place(steps: i64) -> usize
     ensures { result ≡ place_past steps }
 {

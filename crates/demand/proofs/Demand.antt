@@ -7,7 +7,7 @@ use mathlib.Core.List.{List}
 use native.Mathlib.Omega.{arith}
 use lib.IntN.{ℤ}
 use Rattle.whole.specs.Choice.{pick, unless}
-use Rattle.whole.proofs.Choice.{by-test}
+use Rattle.whole.proofs.Choice.{by_test}
 use Rattle.units.specs.Limits.{is_days}
 use Rattle.units.specs.Refusals.{not_in_month}
 use Rattle.history.specs.Rules.{Call}
@@ -58,7 +58,7 @@ step m c k n e = (
 pub opens_fresh : (days : ℕ) (m : Month) → booked 0 m ≡ open_of days → (is_days days ≡ true) × (m.days ≡ days) × (board_of m ≡ fresh (month_rules days))
 unfolding open_of fresh_month fresh
 opens_fresh days m e =
-    by-test (is_days days)
+    by_test (is_days days)
     (λ (t : is_days days ≡ true).
     let f : m ≡ fresh_month days = ap (λ (b : Booked). b.month) e ∙ ap (λ b. pick b (fresh_month days) (fresh_month 0)) t in
     (t, ap (λ (n : Month). n.days) f, ap board_of f ∙ board_all days (fresh (month_rules days))))

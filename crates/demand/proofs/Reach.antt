@@ -9,7 +9,7 @@ use contract.Lifetimes.{Lfts}
 use denote.Triple.Clauses.{AtExit}
 use borrow.Author.Tests.{eqb-true}
 use Rattle.whole.specs.Choice.{unless}
-use Rattle.whole.proofs.Choice.{and_both, by-test}
+use Rattle.whole.proofs.Choice.{and_both, by_test}
 use Rattle.units.specs.Refusals.{not_reachable}
 use mathlib.Core.Logic.{◌↔◌}
 use mathlib.Core.Bool.{Bool, true, false}
@@ -31,7 +31,6 @@ use Rattle.demand.specs.Ledger.{Answers, month_ledger}
 use Rattle.demand.proofs.Demand.{month_laws}
 use denote.Struct.Laws.{owed}
 use borrow.Fn.Kinds.{Dens, GoodsP, ended_of}
-use borrow.Author.Rules.{length_unmapped}
 use Rattle.board.specs.Calls.{lent_marks, lent_amounts}
 use Rattle.board.proofs.check_in.Reads as check_in_reads
 use Rattle.board.proofs.check_in.Kinds as check_in_kinds
@@ -63,7 +62,7 @@ able =
 held : (m : Month) → GoodsP tt total_kinds.ps (m, tt) → Held (rules_of m) (board_of m)
 held m g =
     let f = owed month.the_type month_type_laws.the_laws m _ g.0 in
-    record { marks = length_unmapped Bool m.marks month_places f.1.1.1.1.0.1.0.1; amounts = length_unmapped ℤ m.amounts month_places f.1.1.1.1.1.0.1.0.1 }
+    record { marks = f.1.1.1.1.0.1.0.1; amounts = f.1.1.1.1.1.0.1.0.1 }
 
 -- of a month that lies in its type, which is what the toolchain holds of every one that is handed in
 module _ (m : Month) (typed : GoodsP tt total_kinds.ps (m, tt)) where
@@ -78,17 +77,17 @@ module _ (m : Month) (typed : GoodsP tt total_kinds.ps (m, tt)) where
 -- ---- the test in place: on runs that are the ledger's, `board::check_in` answers 22 just where no run of calls hands the month of that head and those runs back
 
 pub check_in_22 : (κs : Lfts 1) (a : Dens κs check_in_kinds.ps) (k : ℕ) (s : AtExit (ended_of 1 check_in_kinds.ps check_in_kinds.r) κs) → check_in_reads.Post κs a k s →
-    let m = month_in a.0 (lent_marks a) (lent_amounts a) in
+    let m = month_in a.0 a.1.0.now a.1.1.0.now in
     runs_fit (rules_of m) (board_of m) ≡ true → Just22 month_ledger m k
 unfolding month_laws ledger_refusal
 check_in_22 κs a k s p runs =
-    let m = month_in a.0 (lent_marks a) (lent_amounts a) in
+    let m = month_in a.0 a.1.0.now a.1.1.0.now in
     let long = and_both (eqb (length m.marks) month_places) (eqb (length m.amounts) month_places) runs in
     let reach = any-reachable-iff month_ledger month_laws able m (record { marks = eqb-true (length m.marks) month_places long.0; amounts = eqb-true (length m.amounts) month_places long.1 }) in
     let number : k ≡ unless (well_formed (rules_of m) (board_of m)) not_reachable 0 = p ∙ rw runs in (
       (λ e r. let z : ◌≡◌ {A = ℕ} 22 0 = sym e ∙ number ∙ rw (reach.1 r) in absurd (omega arith)),
       λ f.
-          by-test (well_formed (rules_of m) (board_of m))
+          by_test (well_formed (rules_of m) (board_of m))
           (λ (w : well_formed (rules_of m) (board_of m) ≡ true). absurd (f (reach.0 w)))
           (λ (w : well_formed (rules_of m) (board_of m) ≡ false). number ∙ rw w),
     )

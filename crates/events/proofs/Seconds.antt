@@ -12,7 +12,7 @@ use lib.IntN.{ℤ}
 use lib.ListN.{length, get_or, take}
 use lib.Seq.{take_all}
 use borrow.Author.Tests.{eqb-true, eqb-false, leb-true, leb-false}
-use Rattle.whole.proofs.Choice.{by-test, clash}
+use Rattle.whole.proofs.Choice.{by_test, clash}
 use Rattle.whole.proofs.Signed.{signed}
 use Rattle.units.specs.Units.{kilowatts}
 use Rattle.sreg.specs.Second.{starts, ends, score_in, unless_starts, unless_ends, next_state}
@@ -31,7 +31,7 @@ never_both f s e = omega signed
 -- what holds of the numbers below i and of i holds below i + 1
 one_more_lem : (P : ℕ → Type 0) (i : ℕ) → ((j : ℕ) → j < i → P j) → P i → (j : ℕ) → j < suc i → P j
 one_more_lem P i below here j l =
-    by-test (eqb j i)
+    by_test (eqb j i)
     (λ (t : eqb j i ≡ true). subst P (sym (eqb-true j i t)) here)
     (λ (t : eqb j i ≡ false). below j (omega (arith, eqb-false j i t)))
 
@@ -64,9 +64,9 @@ module _ (powers frequencies : List ℤ) where
   -- after an event that ended in second b, with no fall since: what fell before was followed by b
   followed : {a b i : ℕ} → EndsIn frequencies a b → b < i → ((j : ℕ) → b < j → j < i → falls_at j ≡ false) → (j : ℕ) → j < i → falls_at j ≡ true → Returned frequencies j (suc b)
   followed {a} {b} {i} e l none j m f =
-      by-test (leb j b)
+      by_test (leb j b)
       (λ (t : leb j b ≡ true).
-      by-test (eqb j b)
+      by_test (eqb j b)
       (λ (u : eqb j b ≡ true). absurd (never_both (at_second frequencies b) (subst (λ (k : ℕ). falls_at k ≡ true) (eqb-true j b u) f) e.reaches))
       (λ (u : eqb j b ≡ false). record { second = b; after = omega (arith, leb-true j b t, eqb-false j b u); before = omega arith; reaches = e.reaches }))
       (λ (t : leb j b ≡ false). clash (sym (none j (omega (arith, leb-false j b t)) m) ∙ f))
@@ -74,27 +74,27 @@ module _ (powers frequencies : List ℤ) where
   next : (i : ℕ) (s : EventState) → Here i s → Here (suc i) (next_state s (at_second powers i) (at_second frequencies i))
   unfolding unless_starts unless_ends
   next i _ (by_outside over) =
-      by-test (falls_at i)
+      by_test (falls_at i)
       (λ (t : falls_at i ≡ true). rw t (starts_in i t (λ j l f. by_then (over j l f) (omega arith))))
       (λ (t : falls_at i ≡ false). rw t
       (by_outside (one_more_lem (λ (j : ℕ). falls_at j ≡ true → Returned frequencies j (suc i - 10)) i (λ j l f. by_then (over j l f) (omega arith)) (λ f. clash (sym t ∙ f)))))
   next i _ (by_start a k s e least most g) =
-      by-test (ends_at i)
+      by_test (ends_at i)
       (λ (t : ends_at i ≡ true). rw t (ends_in_lem a i s (omega arith) g t))
       (λ (t : ends_at i ≡ false). rw t
-      (by-test (eqb k 9)
+      (by_test (eqb k 9)
       (λ (u : eqb k 9 ≡ true). rw u (by_event a s (omega (arith, eqb-true k 9 u)) (goes_on g t)))
       (λ (u : eqb k 9 ≡ false). rw u (by_start a (k + 1) s (omega arith) (omega arith) (omega (arith, eqb-false k 9 u)) (goes_on g t)))))
   next i _ (by_event a s l g) =
-      by-test (ends_at i)
+      by_test (ends_at i)
       (λ (t : ends_at i ≡ true). rw t (ends_in_lem a i s (omega arith) g t))
       (λ (t : ends_at i ≡ false). rw t (by_event a s (omega arith) (goes_on g t)))
   next i _ (by_end a b left s e l least most none) =
-      by-test (falls_at i)
+      by_test (falls_at i)
       (λ (t : falls_at i ≡ true). rw t (starts_in i t (λ j m f. by_then (followed e (omega arith) none j m f) (omega arith))))
       (λ (t : falls_at i ≡ false). rw t
       (let quiet : (j : ℕ) → b < j → j < suc i → falls_at j ≡ false = λ j n m. one_more_lem (λ (j : ℕ). b < j → falls_at j ≡ false) i (λ j m n. none j n m) (λ n. t) j m n in
-      by-test (eqb left 1)
+      by_test (eqb left 1)
       (λ (u : eqb left 1 ≡ true). rw u (by_outside (λ j m f. by_then (followed e (omega arith) quiet j m f) (omega (arith, eqb-true left 1 u)))))
       (λ (u : eqb left 1 ≡ false). rw u (by_end a b (left - 1) s e (omega arith) (omega (arith, eqb-false left 1 u)) (omega arith) quiet))))
 
@@ -109,7 +109,7 @@ module _ (powers frequencies : List ℤ) where
   module _ (capacity : ℤ) where
     told_by : (i : ℕ) (s : EventState) → Here i s → ScoreTold powers frequencies capacity i (score_in s (at_second powers i) (at_second frequencies i) capacity)
     told_by i _ (by_outside over) =
-        by-test (falls_at i)
+        by_test (falls_at i)
         (λ (t : falls_at i ≡ true). rw t (first_ten i (record { falls = t; none = λ j l f. by_then (over j l f) (omega arith) }) (omega arith) (omega arith)))
         (λ (t : falls_at i ≡ false). rw t (outside (record { steady = t; over = over })))
     told_by i _ (by_start a k s e least most g) = first_ten a s (omega arith) (omega arith)
@@ -136,13 +136,13 @@ module _ (powers frequencies : List ℤ) where
 
     first_outside : {a i : ℕ} → StartsEvent frequencies a → a ≤ i → i < a + 10 → OutsideEvents frequencies i → ⊥
     first_outside {a} {i} s l m o =
-        by-test (eqb a i)
+        by_test (eqb a i)
         (λ (t : eqb a i ≡ true). clash (sym o.steady ∙ subst (λ (k : ℕ). falls_at k ≡ true) (eqb-true a i t) s.falls))
         (λ (t : eqb a i ≡ false). let r = o.over a (omega (arith, eqb-false a i t)) s.falls in absurd (omega (arith, r.after, r.before)))
 
     judged_after : {a c b i : ℕ} → StartsEvent frequencies a → a + 10 ≤ i → GoesOn frequencies a i → EndsIn frequencies c b → b < i → i ≤ b + 10 → ⊥
     judged_after {a} {c} {b} s l g e m n =
-        by-test (eqb a b)
+        by_test (eqb a b)
         (λ (t : eqb a b ≡ true). never_both (at_second frequencies b) (subst (λ (k : ℕ). falls_at k ≡ true) (eqb-true a b t) s.falls) e.reaches)
         (λ (t : eqb a b ≡ false). clash (sym (g b (omega (arith, eqb-false a b t)) m) ∙ e.reaches))
 
@@ -153,10 +153,10 @@ module _ (powers frequencies : List ℤ) where
 
     same_start : {a b i : ℕ} → StartsEvent frequencies a → StartsEvent frequencies b → a ≤ i → b ≤ i → GoesOn frequencies a i → GoesOn frequencies b i → a ≡ b
     same_start {a} {b} s t l m g h =
-        by-test (eqb a b)
+        by_test (eqb a b)
         (λ (u : eqb a b ≡ true). eqb-true a b u)
         (λ (u : eqb a b ≡ false).
-        by-test (leb a b)
+        by_test (leb a b)
         (λ (v : leb a b ≡ true). absurd (two_starts s t (omega (arith, leb-true a b v, eqb-false a b u)) m g))
         (λ (v : leb a b ≡ false). absurd (two_starts t s (omega (arith, leb-false a b v)) l h)))
 

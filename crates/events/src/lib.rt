@@ -1,1 +1,2 @@
 // sReg's events by the list of seconds alone, and the states that an hour can end in: definitions and theorems alone.
+#![tactic(auto)]

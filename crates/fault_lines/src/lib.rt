@@ -1,4 +1,6 @@
 // The line that `desk` prints for a fault.
+#![tactic(auto)]
+
 ghost use Rattle.std.specs.Prelude.{◌-◌, ◌≤◌, ◌≡◌, length, take, drop};
 ghost use Rattle.text.specs.Text.{put, place_after, with_text};
 ghost use Rattle.fault_lines.specs.Text.{fault_words, fault_text};

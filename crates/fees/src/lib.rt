@@ -1,4 +1,6 @@
 // The fees of one hour. Prices are hundredths of a dollar.
+#![tactic(auto)]
+
 ghost use Rattle.std.specs.Prelude.{◌≡◌, true, ◌<◌, ◌≤◌, length};
 ghost use Rattle.whole.specs.Folds.{sum_of};
 ghost use Rattle.units.specs.Limits.{is_price, are_powers, seconds_of_hour};
@@ -17,14 +19,14 @@ const FEE_PARTS: i64 = 100 * 1_000;
 const ENERGY_PARTS: i64 = 4 * limits::QUARTER as i64 * 1_000 * 100;
 
 // An amount, or the number of its refusal with 0.
-#[derive(Drop)]
+#[derive(Clone, Copy)]
 pub struct Charged {
     pub refusal: u8,
     pub dollars: Dollars,
 }
 
 // What the energy service fee is before it is rounded, in parts of a dollar, or the number of its refusal with 0.
-#[derive(Drop)]
+#[derive(Clone, Copy)]
 pub struct Exact {
     pub refusal: u8,
     pub parts: i64,

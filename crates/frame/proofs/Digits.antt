@@ -11,7 +11,7 @@ use lib.ListN.{length, get_or, take, drop, set, length-set}
 use lib.Seq.{take-suc-set, take_all}
 use borrow.Author.Tests.{le-ltb, le-leb, lt-leb, ltb-true, ltb-false, eqb-true}
 use Rattle.whole.specs.Folds.{fold_to}
-use Rattle.whole.proofs.Choice.{clash, and_both, by-test}
+use Rattle.whole.proofs.Choice.{clash, and_both, by_test}
 use Rattle.whole.proofs.Folds.{all_at}
 use Rattle.whole.proofs.Runs.{rest, no_rest}
 use Rattle.frame.specs.Digits.{hex_digit_of, hex_value_of, is_hex_digit, all_digits, digits_of, bytes_of}
@@ -31,7 +31,7 @@ value_digit v h = eqb-true (hex_value_of (hex_digit_of v)) v (all_at 16 (λ v. e
 digit_below : (d : ℕ) → is_hex_digit d ≡ true → d < 71
 unfolding is_hex_digit
 digit_below d e =
-    by-test (ltb d 71)
+    by_test (ltb d 71)
     (λ (t : ltb d 71 ≡ true). ltb-true d 71 t)
     (λ (t : ltb d 71 ≡ false).
     let h = ltb-false d 71 t in
@@ -40,7 +40,7 @@ digit_below d e =
 pub digit_from : (d : ℕ) → is_hex_digit d ≡ true → 48 ≤ d
 unfolding is_hex_digit
 digit_from d e =
-    by-test (ltb d 48)
+    by_test (ltb d 48)
     (λ (t : ltb d 48 ≡ true).
     let h = ltb-true d 48 t in
     clash (simp (lt-leb 48 d h, lt-leb 65 d (omega arith)) at e))

@@ -1,4 +1,6 @@
 // Frames: a line of 24 digits, and the entry that it holds.
+#![tactic(auto)]
+
 ghost use Rattle.std.specs.Prelude.{◌≡◌, length};
 ghost use Rattle.frame.specs.Frame.{line_digits, checked, zeros, opened_of, close_refusal, closed, is_zero, in_form, entry_of, reading_of, body_of, line_of, write_refusal, written};
 
@@ -12,7 +14,7 @@ pub mod kinds;
 mod number;
 
 // What a frame says. Fields that its kind does not use are zero.
-#[derive(Drop)]
+#[derive(Clone, Copy)]
 pub struct Entry {
     pub kind: u8,
     pub day: u8,
@@ -21,14 +23,14 @@ pub struct Entry {
 }
 
 // What a line reads as.
-#[derive(Drop)]
+#[derive(Clone, Copy)]
 pub enum Reading {
     Frame(Entry),
     Refused(u8),
 }
 
 // A line's twelve bytes, or its refusal with zeros.
-#[derive(Drop)]
+#[derive(Clone, Copy)]
 pub struct Opened {
     pub refusal: u8,
     pub bytes: [u8; 12],

@@ -8,7 +8,7 @@ use lib.IntN.{ℤ}
 use lib.ListN.{length, length-append, replicate}
 use Rattle.whole.specs.Choice.{or_else}
 use Rattle.whole.specs.Whole.{up}
-use Rattle.whole.proofs.Choice.{by-test, and_both, both_passed, kept_any, kept_by}
+use Rattle.whole.proofs.Choice.{by_test, and_both, both_passed, kept_any, kept_by}
 use Rattle.whole.proofs.Signed.{Natural, natural}
 use Rattle.units.specs.Refusals.{bad_kind}
 use Rattle.units.specs.Limits.{most_second, is_second, most_pattern, is_pattern}
@@ -60,7 +60,7 @@ frames_long f =
   where
     lines_long : length (lines_text f) ≤ 50
     lines_long =
-        by-test f.paired
+        by_test f.paired
         (λ (p : f.paired ≡ true). rw p (omega (arith, length-append (entry_text f.entry) (entry_text f.second), entry_long f.entry, entry_long f.second)))
         (λ (p : f.paired ≡ false). rw p (omega (arith, entry_long f.entry)))
 
@@ -90,6 +90,6 @@ sized second f p e =
 pub pair_long : (second f p : ℤ) → length (pair_text second f p) ≤ 50
 unfolding pair_text
 pair_long second f p =
-    by-test (is_second second && (is_pattern f && is_pattern p))
+    by_test (is_second second && (is_pattern f && is_pattern p))
     (λ (t : is_second second && (is_pattern f && is_pattern p) ≡ true). rw t (omega (arith, pair_line_long (up second) (up f) (up p))))
     (λ (t : is_second second && (is_pattern f && is_pattern p) ≡ false). rw t (omega (arith, alone_long bad_kind)))

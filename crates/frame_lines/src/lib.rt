@@ -1,4 +1,6 @@
 // The lines that `desk` prints for a frame, or for two, and for a logger's.
+#![tactic(auto)]
+
 ghost use Rattle.std.specs.Prelude.{◌≡◌, ◌++◌};
 ghost use Rattle.text.specs.Text.{end_of_line, place_after, with_text};
 ghost use Rattle.pair_frame.specs.PairFrame.{pair_line};

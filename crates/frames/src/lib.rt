@@ -1,4 +1,6 @@
 // The questions that print a frame, or two: the entries that they hold.
+#![tactic(auto)]
+
 ghost use Rattle.std.specs.Prelude.{◌≡◌};
 ghost use Rattle.hours.specs.Hours.{hour_numbers};
 ghost use Rattle.frames.specs.Frames.{no_entry, single, framed_by, frame_asked, hour_post, fee_entry, loss_frames, frame_answer};
@@ -9,7 +11,7 @@ use words::{Framing, Hour};
 
 // An entry, and a second one where they are a pair; or the number of a refusal that comes before the frame writer's
 // own, and zeros.
-#[derive(Drop)]
+#[derive(Clone, Copy)]
 pub struct Framed {
     pub refusal: u8,
     pub entry: Entry,

@@ -5,7 +5,7 @@ use mathlib.Core.Path.{◌≡◌}
 use mathlib.Core.Bool.{true, false, ◌&&◌, and-false}
 use lib.Dec.{leb, ltb}
 use borrow.Author.Tests.{leb-true, leb-false, ltb-true, lt-ltb, le-ltb}
-use Rattle.whole.proofs.Choice.{and_both, by-test}
+use Rattle.whole.proofs.Choice.{and_both, by_test}
 use Rattle.units.specs.Limits.{hours_of_day, month_places}
 use Rattle.history.specs.Rules.{hours_to, inside, place_in, places_of}
 use Rattle.history.proofs.Days.{hours_even}
@@ -20,11 +20,11 @@ module _ (days d x : ℕ) where
 
   below : (month_rules days).opens ≡ true → Below
   below opens =
-      by-test (leb 1 d)
+      by_test (leb 1 d)
       (λ (o : leb 1 d ≡ true).
-      by-test (ltb x hours_of_day)
+      by_test (ltb x hours_of_day)
       (λ (t : ltb x hours_of_day ≡ true).
-      by-test (leb d days)
+      by_test (leb d days)
       (λ (l : leb d days ≡ true).
       let a = leb-true 1 d o in let c = ltb-true x hours_of_day t in let e = leb-true d days l in
       rw (o, t, l) (lt-ltb (hours_to (λ _. hours_of_day) (d - 1) + x) (places_of (month_rules days)) (omega (arith, hours_even hours_of_day days, hours_even hours_of_day (d - 1)))))

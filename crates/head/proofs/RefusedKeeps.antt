@@ -4,7 +4,7 @@ use mathlib.Core.Bool.{Bool, true, false}
 use mathlib.Core.List.{[]}
 use lib.IntN.{ℤ}
 use Rattle.whole.specs.Refused.{RefusedBare}
-use Rattle.whole.proofs.Choice.{by-test, kept_old}
+use Rattle.whole.proofs.Choice.{by_test, kept_old}
 use Rattle.units.specs.Limits.{is_days}
 use Rattle.units.specs.Units.{dollars}
 use Rattle.history.specs.Rules.{Call}
@@ -26,7 +26,7 @@ use Rattle.head.proofs.close.Kinds as close_kinds
 open_refused_keeps : RefusedBare 0 open_kinds.ps open_kinds.r (λ κs x. x.refusal) (λ κs a k. record { refusal = k; head = fresh_head 0 }) open_reads.Post
 unfolding opened_head
 open_refused_keeps κs a x s p f =
-    by-test (is_days a.0)
+    by_test (is_days a.0)
     (λ (t : is_days a.0 ≡ true). absurd (f (ap (λ (h : Headed). h.refusal) p ∙ rw t)))
     (λ (t : is_days a.0 ≡ false).
     let left : x.head ≡ fresh_head 0 = ap (λ (h : Headed). h.head) p ∙ rw t in

@@ -1,5 +1,7 @@
 // The month ledger's head, by value: what a month is beside its places. Its calls touch no place; an hour's place is
 // worked out here, and nowhere else.
+#![tactic(auto)]
+
 ghost use Rattle.std.specs.Prelude.{◌≡◌};
 ghost use Rattle.units.specs.Limits.{is_days};
 ghost use Rattle.history.specs.Rules.{Call, places_of};
@@ -9,7 +11,7 @@ ghost use Rattle.head.specs.Inner.{place_of, fresh_head, opened_head, head_fits,
 use units::{Dollars, limits, refusals};
 
 // A month without its places.
-#[derive(Drop)]
+#[derive(Clone, Copy)]
 pub struct Head {
     pub days: u8,
     pub closed: bool,
@@ -18,7 +20,7 @@ pub struct Head {
 }
 
 // What a call on the head answers: its refusal, and the head that it hands back.
-#[derive(Drop)]
+#[derive(Clone, Copy)]
 pub struct Headed {
     pub refusal: u8,
     pub head: Head,

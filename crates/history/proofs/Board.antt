@@ -13,7 +13,7 @@ use lib.Seq.{get_or-set_same, get_or-set_other}
 use borrow.Author.Tests.{leb-true, le-leb, ltb-true, ltb-false, lt-ltb, le-ltb, eqb-true, eqb-false, eq-eqb}
 use Rattle.whole.specs.Choice.{pick, in_order, kept}
 use Rattle.whole.specs.Folds.{fold_to}
-use Rattle.whole.proofs.Choice.{both, and_both, clash, by-test, passed}
+use Rattle.whole.proofs.Choice.{both, and_both, clash, by_test, passed}
 use Rattle.whole.proofs.Folds.{all_at, all_of, fold_same, fold_tail}
 use Rattle.units.specs.Refusals.{wrong_length, not_reachable, month_closed, not_in_month}
 use Rattle.history.specs.Rules.{Call, Deed, Rules, Sound, hours_to, is_among, inside, place_in, places_of, left, hour_tests, deed_tests, place_tests, call_tests}
@@ -41,7 +41,7 @@ module _ {F : Type 0} (t : F → Bool) where
       let q = and_both ok (t g) r.0 in (
         q.0,
         λ f n.
-            by-test (same g f)
+            by_test (same g f)
             (λ (s : same g f ≡ true). ap t (sym (is g f s)) ∙ q.1)
             (λ (s : same g f ≡ false). r.1 f (ap (λ u. u || is_among same gs f) (sym s) ∙ n)),
       )
@@ -158,7 +158,7 @@ module _ {F M B : Type 0} (R : Rules F M B) (b : Board F M B) (d x p : ℕ) (for
 
   same : (deed : Deed (M × B)) → Same deed (ltb p (places_of R)) p (inside R d x) (place_in R d x)
   same deed =
-      by-test (fees_fit R b) fits
+      by_test (fees_fit R b) fits
       (λ (e : fees_fit R b ≡ false).
       let rest : Bool → ℕ → List (Bool × ℕ) = λ v q. place_tests R b.closed v (mark_at R b q) deed in
       rw e (unfit (runs_fit R b) b (rest (ltb p (places_of R)) p) (rest (inside R d x) (place_in R d x)) _ _))
@@ -166,7 +166,7 @@ module _ {F M B : Type 0} (R : Rules F M B) (b : Board F M B) (d x p : ℕ) (for
       fits : fees_fit R b ≡ true → Same deed (ltb p (places_of R)) p (inside R d x) (place_in R d x)
       fits e =
           let w = for.within (fit_opens R b e) in
-          by-test (inside R d x)
+          by_test (inside R d x)
           (λ (i : inside R d x ≡ true). (
             ap₂ (λ v q. in_order (tests deed v q)) w (for.here i),
             ap₂ (λ v q. kept (in_order (tests deed v q)) (placed R b q (left R deed)) b) w (for.here i),
@@ -198,14 +198,14 @@ module _ {F M B : Type 0} (R : Rules F M B) (b : Board F M B) (d x p : ℕ) (for
   hour_told_at e =
       let w = for.within (fit_opens R b e) in
       let read : Bool → ℕ → ℕ × ℤ = λ v q. told (in_order (lent_tests R b ++ hour_tests v (mark_at R b q))) (R.worth (item_at R b q)) in
-      by-test (inside R d x)
+      by_test (inside R d x)
       (λ (i : inside R d x ≡ true). ap₂ read w (for.here i))
-      (λ (i : inside R d x ≡ false). rw (w, i, e) (by-test (runs_fit R b) (λ (r : runs_fit R b ≡ true). rw r) (λ (r : runs_fit R b ≡ false). rw r)))
+      (λ (i : inside R d x ≡ false). rw (w, i, e) (by_test (runs_fit R b) (λ (r : runs_fit R b ≡ true). rw r) (λ (r : runs_fit R b ≡ false). rw r)))
 
 -- on runs that are the ledger's, the test in place is that of 22
 pub ledger_test : {F M B : Type 0} (R : Rules F M B) (b : Board F M B) → runs_fit R b ≡ true → eqb (ledger_refusal R b) 0 ≡ well_formed R b
 unfolding ledger_refusal
-ledger_test R b runs = by-test (well_formed R b) (λ (w : well_formed R b ≡ true). rw (runs, w)) (λ (w : well_formed R b ≡ false). rw (runs, w))
+ledger_test R b runs = by_test (well_formed R b) (λ (w : well_formed R b ≡ true). rw (runs, w)) (λ (w : well_formed R b ≡ false). rw (runs, w))
 
 module _ {F M B : Type 0} (R : Rules F M B) (sound : Sound R) where
   pub well_good : (b : Board F M B) → well_formed R b ≡ true → length b.marks ≡ R.places → length b.amounts ≡ R.places → Good R b
@@ -280,7 +280,7 @@ module _ {F M B : Type 0} (R : Rules F M B) (sound : Sound R) where
 
   pub fresh_stands : (d x : ℕ) → stands_on R (fresh R) d x ≡ none
   fresh_stands d x =
-      by-test (inside R d x)
+      by_test (inside R d x)
       (λ (i : inside R d x ≡ true). rw i (ap (λ a. pick (R.filled a.0) (some a) none) (fresh_item (place_in R d x)) ∙ of_blank _ _))
       (λ (i : inside R d x ≡ false). rw i)
 

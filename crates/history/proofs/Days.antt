@@ -11,7 +11,7 @@ use borrow.Author.Tests.{ltb-true, ltb-false, eqb-true, eqb-false, eq-eqb, ne_eq
 use Rattle.whole.specs.Folds.{fold_to}
 use Rattle.history.specs.Rules.{hours_to}
 use Rattle.whole.proofs.Folds.{fold_split}
-use Rattle.whole.proofs.Choice.{by-test}
+use Rattle.whole.proofs.Choice.{by_test}
 
 module _ (H : ℕ → ℕ) where
   hours_more : (a b : ℕ) → hours_to H a ≤ hours_to H (a + b)
@@ -59,7 +59,7 @@ module _ (H : ℕ → ℕ) where
   unfolding hours_to
   hour_at zero p l = absurd (not-suc-le-zero l)
   hour_at (suc n) p l =
-      by-test (ltb p (hours_to H n))
+      by_test (ltb p (hours_to H n))
       (λ (t : ltb p (hours_to H n) ≡ true).
       let k = hour_at n p (ltb-true p (hours_to H n) t) in
       record { day = k.day; hour = k.hour; one = k.one; last = omega (arith, k.last); short = k.short; is = k.is })

@@ -12,7 +12,7 @@ use lib.IntN.{ℤ, pos}
 use lib.ListN.{replicate}
 use borrow.Author.Tests.{ltb-true}
 use Rattle.whole.specs.Choice.{pick, unless, or_else, in_order}
-use Rattle.whole.proofs.Choice.{by-test, and_both, clash, kept_any, kept_new}
+use Rattle.whole.proofs.Choice.{by_test, and_both, clash, kept_any, kept_new}
 use Rattle.units.specs.Refusals.{not_reachable, not_in_month, place_filled, place_empty, month_closed}
 use Rattle.history.specs.Rules.{Call, Deed, Rules, Sound, hours_to, is_among, inside, place_in, places_of, deed_tests, place_tests}
 use Rattle.history.specs.Board.{Board, mark_at, item_at, filled_at, fresh, placed, well_formed, ruling_on, next_on, handed, hour_on, day_on, part_on, refusal_of, or_reachable, posts_of_day, posts_to}
@@ -177,7 +177,7 @@ module _ {F M B : Type 0} (R : Rules F M B) where
       fee_set_lem : (fs : List F) (f : F) → is_among R.same_fee fs f ≡ true → fee_set fs f ≡ b.fee f
       fee_set_lem [] f n = clash n
       fee_set_lem (k ∷ ks) f n =
-          by-test (R.same_fee k f)
+          by_test (R.same_fee k f)
           (λ (s : R.same_fee k f ≡ true). rw s (ap b.fee (sound.same_is k f s)))
           (λ (s : R.same_fee k f ≡ false). rw s (fee_set_lem ks f (ap (λ u. u || is_among R.same_fee ks f) (sym s) ∙ n)))
 
@@ -254,7 +254,7 @@ module _ {P F M B S : Type 0} (L : Ledger P F M B S) (laws : Lawful L) (able : A
     just_22 n k e l = (
       (λ z r. let f : k ≡ not_reachable = sym (e ∙ ap (λ u. pick u k not_reachable) (reachable_iff.1 r)) ∙ z in absurd (omega arith)),
       λ no.
-          by-test (well_formed (rules_at L laws s) (laws.board s))
+          by_test (well_formed (rules_at L laws s) (laws.board s))
           (λ (w : well_formed (rules_at L laws s) (laws.board s) ≡ true). absurd (no (reachable_iff.0 w)))
           (λ (w : well_formed (rules_at L laws s) (laws.board s) ≡ false). e ∙ ap (λ u. pick u k not_reachable) w),
     )

@@ -10,7 +10,7 @@ use lib.IntN.{ℤ, pos, ◌+ℤ◌, ◌-ℤ◌, +ℤ_idr, +ℤ_assoc}
 use borrow.Author.Tests.{lt-ltb}
 use Rattle.whole.specs.Choice.{pick, unless}
 use Rattle.whole.specs.Folds.{sum_to}
-use Rattle.whole.proofs.Choice.{by-test, both, kept_new}
+use Rattle.whole.proofs.Choice.{by_test, both, kept_new}
 use Rattle.whole.proofs.Folds.{fold_same}
 use Rattle.units.specs.Refusals.{place_empty}
 use Rattle.history.specs.Rules.{Rules, Sound, inside, place_in}
@@ -33,7 +33,7 @@ module _ {F M B : Type 0} (R : Rules F M B) (sound : Sound R) (h : List (Recorde
   pub hour_is_lem : (d x : ℕ) → hour_on R b d x ≡ hour_is R h d x
   unfolding hour_on
   hour_is_lem d x =
-      by-test (inside R d x)
+      by_test (inside R d x)
       (λ (i : inside R d x ≡ true).
       let e : place_on R b (place_in R d x) ≡ last_item R h d x = (rw i at (t.stands_is d x)) in
       rw i (read (filled_at R b d x) (item_at R b (place_in R d x)) ∙ ap (λ o. told (unless (stands o) place_empty 0) (read_as R.worth o)) e))
@@ -46,7 +46,7 @@ module _ {F M B : Type 0} (R : Rules F M B) (sound : Sound R) (h : List (Recorde
   pub day_is_lem : (d : ℕ) → day_on R b d ≡ day_is R h d
   unfolding day_on
   day_is_lem d =
-      by-test (leb 1 d && leb d R.days)
+      by_test (leb 1 d && leb d R.days)
       (λ (i : leb 1 d && leb d R.days ≡ true). rw i (ap (told 0) (hours_of_lem d i)))
       (λ (i : leb 1 d && leb d R.days ≡ false). rw i)
 

@@ -11,7 +11,6 @@ use lib.Seq.{get_or-take, get_or-drop}
 use contract.Lifetimes.{Lfts}
 use mir.Val.{Val}
 use borrow.Fn.Kinds.{Dens, GoodsP, ended_of}
-use borrow.Author.Rules.{length_unmapped}
 use denote.Triple.Clauses.{AtExit}
 use denote.Laws.{Is}
 use denote.Struct.Declared.{row}
@@ -191,7 +190,7 @@ module _ (h : WholeHour) (run scores : List ℕ) (r : Settlement) (five : Five h
 
 -- what is handed in has five targets
 pub five_targets : (t : Shift) (vs : List Val) → Is (row shift.the_type) t vs → Five (edreg t)
-five_targets t vs g = length_unmapped ℤ t.targets 5 (owed shift.the_type shift_laws.the_laws t vs g).1.1.0.1.0.1
+five_targets t vs g = (owed shift.the_type shift_laws.the_laws t vs g).1.1.0.1.0.1
 
 -- an E-dReg hour: a call of `hour`, on parameters of their types
 module _ (κs : Lfts 6) (a : Dens κs hour_kinds.ps) (good : GoodsP κs hour_kinds.ps a) (r : Settlement) (s : AtExit (ended_of 6 hour_kinds.ps hour_kinds.r) κs) (met : hour_reads.Post κs a r s) where

@@ -13,7 +13,7 @@ use mir.Val.{SFits}
 use borrow.Author.Tests.{eqb-true, eq-eqb, le-leb}
 use Rattle.whole.specs.Choice.{unless, or_else, in_order}
 use Rattle.whole.specs.Whole.{minus, Within}
-use Rattle.whole.proofs.Choice.{and_both, by-test, all_passed, passed_all, in_order_then, or_first, or_rest, kept_new, kept_old, kept_any}
+use Rattle.whole.proofs.Choice.{and_both, by_test, all_passed, passed_all, in_order_then, or_first, or_rest, kept_new, kept_old, kept_any}
 use Rattle.whole.proofs.Runs.{length_listed}
 use Rattle.whole.proofs.Signed.{within_fits}
 use Rattle.whole.proofs.Sums.{within_in, inside_all}
@@ -55,7 +55,7 @@ long_of h places e = long (length h.powers) (length h.frequencies) (length h.ear
 -- the bands' call refuses just what does not fit
 pub bands_test : (thresholds factors : List ℤ) → eqb (bands_refusal thresholds factors) 0 ≡ bands_fit thresholds factors
 unfolding bands_refusal
-bands_test ts fs = by-test (bands_fit ts fs) (λ (t : bands_fit ts fs ≡ true). rw t) (λ (t : bands_fit ts fs ≡ false). rw t)
+bands_test ts fs = by_test (bands_fit ts fs) (λ (t : bands_fit ts fs ≡ true). rw t) (λ (t : bands_fit ts fs ≡ false). rw t)
 
 -- an hour that is not refused fits
 pub fit : (h : WholeHour) (places : ℕ) → hour_refusal h places ≡ 0 → HourFits h places
@@ -136,7 +136,7 @@ module _ (h : WholeHour) (places : ℕ) (f : TermsFit h places) where
   worked_refusal_is : worked_refusal h.powers h.frequencies (transfers_of h.service) h.terms.capacity h.reference h.earlier places ≡ of_readings h
   unfolding worked_refusal
   worked_refusal_is =
-      by-test (are_scores h.earlier) (λ (t : are_scores h.earlier ≡ true). rw (t, run_refusal_is)) (λ (t : are_scores h.earlier ≡ false). rw t)
+      by_test (are_scores h.earlier) (λ (t : are_scores h.earlier ≡ true). rw (t, run_refusal_is)) (λ (t : are_scores h.earlier ≡ false). rw t)
 
 module _ (h : WholeHour) (places : ℕ) (none : of_terms h places ≡ 0) where
   readings_left : hour_refusal h places ≡ of_readings h
@@ -171,7 +171,7 @@ module _ (h : WholeHour) (places : ℕ) where
   unfolding hour_answer settled_of granted_hour refused_hour
   refusal_is =
       let k = hour_refusal h places in
-      by-test (eqb k 0) (λ (e : eqb k 0 ≡ true). rw e (sym (eqb-true k 0 e))) (λ (e : eqb k 0 ≡ false). rw e)
+      by_test (eqb k 0) (λ (e : eqb k 0 ≡ true). rw e (sym (eqb-true k 0 e))) (λ (e : eqb k 0 ≡ false). rw e)
 
   -- refused terms refuse the hour
   pub terms_refuse : (of_terms h places ≡ 0 → ⊥) → hour_refusal h places ≡ of_terms h places
@@ -207,11 +207,11 @@ at_last terms ts fs rate n e =
     let capacity = is_capacity terms.capacity.0 in
     let prices = is_price terms.clearing && is_price terms.performance in
     rw (eq-eqb n seconds_of_hour e)
-    (by-test capacity
+    (by_test capacity
     (λ (c : capacity ≡ true).
-    by-test prices
+    by_test prices
     (λ (p : prices ≡ true).
-    by-test (bands_fit ts fs) (λ (b : bands_fit ts fs ≡ true). rw (c, p, b)) (λ (b : bands_fit ts fs ≡ false). rw (c, p, b)))
+    by_test (bands_fit ts fs) (λ (b : bands_fit ts fs ≡ true). rw (c, p, b)) (λ (b : bands_fit ts fs ≡ false). rw (c, p, b)))
     (λ (p : prices ≡ false). rw (c, p)))
     (λ (c : capacity ≡ false). rw c))
 

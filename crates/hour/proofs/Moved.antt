@@ -11,7 +11,7 @@ use contract.Lifetimes.{Lfts}
 use borrow.Fn.Kinds.{Dens, ended_of}
 use borrow.Author.Tests.{eqb-true}
 use denote.Triple.Clauses.{AtExit}
-use Rattle.whole.proofs.Choice.{by-test}
+use Rattle.whole.proofs.Choice.{by_test}
 use Rattle.curve.specs.Moved.{unmoved}
 use Rattle.curve.proofs.Moved.{unmoved_fits}
 use Rattle.score.specs.Run.{run_scores}
@@ -69,7 +69,7 @@ module _ (d : ℤ) (h : WholeHour) (m : MoveFits d h.frequencies h.reference) wh
   together_hour places =
       let k = hour_refusal h places in
       rw (together_refusal places)
-      (by-test (eqb k 0)
+      (by_test (eqb k 0)
       (λ (t : eqb k 0 ≡ true). rw (t, ap (λ (l : List ℕ). (hourly_rate h.earlier l).rate) (together_scores (same_seconds places (eqb-true k 0 t)))))
       (λ (t : eqb k 0 ≡ false). rw t))
 
@@ -78,7 +78,7 @@ module _ (d : ℤ) (h : WholeHour) (m : MoveFits d h.frequencies h.reference) wh
   together_left run =
       let k = hour_refusal h (length run) in
       rw (together_refusal (length run))
-      (by-test (eqb k 0)
+      (by_test (eqb k 0)
       (λ (t : eqb k 0 ≡ true). rw (t, together_scores (same_seconds (length run) (eqb-true k 0 t))))
       (λ (t : eqb k 0 ≡ false). rw t))
 

@@ -1,4 +1,6 @@
 // The hour, dReg or E-dReg: its refusals in order, its scores, its rate and its fees.
+#![tactic(auto)]
+
 ghost use Rattle.std.specs.Prelude.{◌≡◌, true, ◌&&◌, ◌+ℤ◌, length, take, drop};
 ghost use Rattle.std.specs.Int.{w64};
 ghost use Rattle.std.proofs.Common.{SFits};
@@ -17,7 +19,7 @@ use units::{Dollars, Kilowatts, Millihertz, limits, refusals};
 const LEAST_TRANSFER: i64 = -limits::TRANSFER;
 
 // What an hour is settled by, besides its readings and the bands. Prices are hundredths of a dollar.
-#[derive(Drop)]
+#[derive(Clone, Copy)]
 pub struct Terms {
     pub capacity: Kilowatts,
     pub clearing: i64,
@@ -26,7 +28,7 @@ pub struct Terms {
 
 // What an E-dReg hour has besides: the prices of its energy, and the target before the hour and those of its four
 // quarters, in kW.
-#[derive(Drop)]
+#[derive(Clone, Copy)]
 pub struct Shift {
     pub discharge: i64,
     pub charge: i64,
@@ -34,7 +36,7 @@ pub struct Shift {
 }
 
 // What an hour earned, or its refusal with zeros. The factor is in tenths.
-#[derive(Drop)]
+#[derive(Clone, Copy)]
 pub struct Settlement {
     pub refusal: u8,
     pub rate: u8,

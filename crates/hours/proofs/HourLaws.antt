@@ -11,7 +11,7 @@ use borrow.Author.Tests.{leb-true, leb-false}
 use Rattle.whole.specs.Choice.{pick, kept}
 use Rattle.whole.specs.Runs.{listed}
 use Rattle.whole.specs.Whole.{Within}
-use Rattle.whole.proofs.Choice.{and_both, by-test, clash, kept_any, kept_old}
+use Rattle.whole.proofs.Choice.{and_both, by_test, clash, kept_any, kept_old}
 use Rattle.units.specs.Limits.{most_bands, earlier_scores, seconds_of_hour}
 use Rattle.bands.specs.Bands.{bands_fit}
 use Rattle.bands.proofs.Laws.{bands_fit_lem}
@@ -59,7 +59,7 @@ number_by Sreg s h n = static.refusal_is (stated s h) n
 refused_by : (a : words.Hour) (s : EventState) (h : WholeHour) (n : ℕ) → (refusal_by a s h n ≡ 0 → ⊥) → ended_by a s h n ≡ refused_sreg (refusal_by a s h n)
 refused_by Dreg s h n f = ap stateless (hour_refused h n f)
 refused_by Edreg s h n f = ap stateless (hour_refused h n f)
-refused_by Sreg s h n f = static.refused-is (stated s h) n f
+refused_by Sreg s h n f = static.refused_is (stated s h) n f
 
 left_by_lem : (a : words.Hour) (s : EventState) (h : WholeHour) (run : List ℕ) → left_by a s h run ≡ kept (refusal_by a s h (length run)) (scores_by a s h) run
 unfolding scores_left sreg_left
@@ -70,12 +70,12 @@ left_by_lem Sreg s h run = refl
 long_by : (a : words.Hour) (s : EventState) (h : WholeHour) (n : ℕ) → refusal_by a s h n ≡ 0 → length (scores_by a s h) ≡ seconds_of_hour
 long_by Dreg s h n e = scores_long h n e
 long_by Edreg s h n e = scores_long h n e
-long_by Sreg s h n e = static.scores-long (stated s h) n e
+long_by Sreg s h n e = static.scores_long (stated s h) n e
 
 pub amount_by : (a : words.Hour) (s : EventState) (h : WholeHour) (n : ℕ) → Within most_hour_amount (ended_by a s h n).hour.amount.0
 amount_by Dreg s h n = hour_within h n
 amount_by Edreg s h n = hour_within h n
-amount_by Sreg s h n = static.hour-within (stated s h) n
+amount_by Sreg s h n = static.hour_within (stated s h) n
 
 -- bands that fit, where nothing is refused
 bands_by : (a : words.Hour) (s : EventState) (h : WholeHour) (n : ℕ) → refusal_by a s h n ≡ 0 → bands_fit h.thresholds h.factors ≡ true
@@ -133,12 +133,12 @@ module _ (h : Basis) (c : h.fits ≡ true) where
 -- a refused hour has zeros beside its number, and `Outside`
 pub refused_is : (h : Basis) → ((settlement h).refusal ≡ 0 → ⊥) → settled_by h ≡ refused_sreg (settlement h).refusal
 unfolding settled_by refused_hour
-refused_is h f = by-test h.fits (λ (t : h.fits ≡ true). refused_fits h t f) (λ (t : h.fits ≡ false). rw t)
+refused_is h f = by_test h.fits (λ (t : h.fits ≡ true). refused_fits h t f) (λ (t : h.fits ≡ false). rw t)
 
 -- ---- more pairs than bands may be: the hour is refused with the same number, however many of them are read
 
 unfit : (t g : List ℤ) → most_bands < length t → bands_fit t g ≡ false
-unfit t g h = by-test (bands_fit t g) (λ (e : bands_fit t g ≡ true). absurd (omega (arith, (bands_fit_lem t g e).few))) (λ (e : bands_fit t g ≡ false). e)
+unfit t g h = by_test (bands_fit t g) (λ (e : bands_fit t g ≡ true). absurd (omega (arith, (bands_fit_lem t g e).few))) (λ (e : bands_fit t g ≡ false). e)
 
 module _ (a : words.Hour) (s : EventState) (powers frequencies : List ℤ) (terms : Terms) (reference : Millihertz) (shift : Shift) (earlier : List ℕ) where
   abbrev banded : List ℤ → List ℤ → WholeHour
@@ -172,7 +172,7 @@ module _ (a : words.Hour) (s : EventState) (powers frequencies : List ℤ) (term
   pub pairs_answer : (places : ℕ) → ended_by a s (by (pairs_in (length bands))) places ≡ ended_by a s (by all) places
   unfolding pairs_in
   pairs_answer places =
-      by-test (leb all 100)
+      by_test (leb all 100)
       (λ (t : leb all 100 ≡ true). let h = leb-true all 100 t in let e : min all 100 ≡ all = omega arith in rw e)
       (λ (t : leb all 100 ≡ false). let h = leb-false all 100 t in
       answer_same a s powers frequencies terms reference shift earlier _ _ _ _ (omega (arith, length_column bands 0 (min all 100))) (omega (arith, length_column bands 0 all)) places)
@@ -180,7 +180,7 @@ module _ (a : words.Hour) (s : EventState) (powers frequencies : List ℤ) (term
   pub pairs_left : (run : List ℕ) → left_by a s (by (pairs_in (length bands))) run ≡ left_by a s (by all) run
   unfolding pairs_in
   pairs_left run =
-      by-test (leb all 100)
+      by_test (leb all 100)
       (λ (t : leb all 100 ≡ true). let h = leb-true all 100 t in let e : min all 100 ≡ all = omega arith in rw e)
       (λ (t : leb all 100 ≡ false).
       left_by_lem a s (by (min all 100)) run
@@ -252,7 +252,7 @@ not_none h t z = let e : wrong_length ≡ 0 = rw t at z in omega arith
 -- an hour that is not refused has a score for each second
 pub scores_all : (h : Basis) → (settlement h).refusal ≡ 0 → length (scores_asked h) ≡ seconds_of_hour
 scores_all h z =
-    by-test h.fits (λ (t : h.fits ≡ true). long_by h.asked h.state h.hour seconds_of_hour (sym (settlement_number h t) ∙ z)) (λ (t : h.fits ≡ false). absurd (not_none h t z))
+    by_test h.fits (λ (t : h.fits ≡ true). long_by h.asked h.state h.hour seconds_of_hour (sym (settlement_number h t) ∙ z)) (λ (t : h.fits ≡ false). absurd (not_none h t z))
 
 pub left_long : (h : Basis) (run : List ℕ) → length run ≡ seconds_of_hour → length (scores_after h run) ≡ seconds_of_hour
 unfolding scores_after

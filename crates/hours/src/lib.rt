@@ -1,5 +1,7 @@
 // The questions about a whole hour: its terms, its bands as pairs, its earlier scores, for sReg a state, and its
 // readings as pairs.
+#![tactic(auto)]
+
 ghost use Rattle.std.specs.Prelude.{◌≤◌, true, ◌≡◌, length, drop};
 ghost use Rattle.numbers.specs.Numbers.{column};
 ghost use Rattle.numbers.specs.Inner.{taken};

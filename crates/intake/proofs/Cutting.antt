@@ -11,7 +11,7 @@ use lib.ListN.{length, get_or, take, drop, set, length-append, length-set}
 use lib.Seq.{take_all, take-append-le, take-suc-set, length-take-le}
 use borrow.Author.Tests.{ne_eqb, lt-ltb, le-ltb, ltb-true, ltb-false}
 use Rattle.whole.specs.Choice.{pick}
-use Rattle.whole.proofs.Choice.{by-test}
+use Rattle.whole.proofs.Choice.{by_test}
 use Rattle.whole.proofs.Runs.{rest, no_rest}
 use Rattle.frame.specs.Frame.{read_refusal, reading_of}
 use Rattle.lines.specs.Lines.{line_end, before_end}
@@ -36,7 +36,7 @@ pub lines_cut : (line : Line) (xs : List ℕ) → length (before_end xs) < lengt
     → lines_in line xs ≡ held_in (kept_in line (before_end xs)) ∷ lines_in empty_line (drop (suc (length (before_end xs))) xs)
 lines_cut line [] h = absurd (omega arith)
 lines_cut line (x ∷ xs) h =
-    by-test (eqb x line_end)
+    by_test (eqb x line_end)
     (λ (t : eqb x line_end ≡ true). rw t)
     (λ (t : eqb x line_end ≡ false). rw t (lines_cut (pushed line x) xs (ends_by (eqb x line_end) x xs h t)))
 
@@ -44,14 +44,14 @@ pub left_cut : (line : Line) (xs : List ℕ) → length (before_end xs) < length
     → left_in line xs ≡ left_in empty_line (drop (suc (length (before_end xs))) xs)
 left_cut line [] h = absurd (omega arith)
 left_cut line (x ∷ xs) h =
-    by-test (eqb x line_end)
+    by_test (eqb x line_end)
     (λ (t : eqb x line_end ≡ true). rw t)
     (λ (t : eqb x line_end ≡ false). rw t (left_cut (pushed line x) xs (ends_by (eqb x line_end) x xs h t)))
 
 -- no line end is left
 no_end_lem : (x : ℕ) (xs : List ℕ) → suc (length xs) ≤ length (before_end (x ∷ xs)) → (eqb x line_end ≡ false) × (length xs ≤ length (before_end xs))
 no_end_lem x xs h =
-    by-test (eqb x line_end)
+    by_test (eqb x line_end)
     (λ (t : eqb x line_end ≡ true). let z : suc (length xs) ≤ 0 = rw t at h in absurd (omega arith))
     (λ (t : eqb x line_end ≡ false). let z : suc (length xs) ≤ suc (length (before_end xs)) = rw t at h in (t, omega arith))
 
@@ -110,7 +110,7 @@ module _ (l : Line) (cur : List ℕ) (b : ℕ) (s : Shows l cur) where
 
   pub shows_push : Shows (pushed l b) (cur ++ (b ∷ []))
   shows_push =
-      by-test (ltb l.len 25)
+      by_test (ltb l.len 25)
       (λ (t : ltb l.len 25 ≡ true). push_room (ltb-true l.len 25 t))
       (λ (t : ltb l.len 25 ≡ false). push_full (ltb-false l.len 25 t))
 
@@ -123,7 +123,7 @@ shows_kept l cur (b ∷ bs) s = rw append_assoc at (shows_kept (pushed l b) (cur
 pub reading_kept : (l : List ℕ) → reading_of (take 25 l) ≡ reading_of l
 unfolding reading_of read_refusal
 reading_kept l =
-    by-test (ltb 25 (length l))
+    by_test (ltb 25 (length l))
     (λ (t : ltb 25 (length l) ≡ true).
     let h : 25 < length l = ltb-true 25 (length l) t in
     rw (ne_eqb (length (take 25 l)) 24 (λ e. omega (arith, length-take-le 25 l (omega arith))), ne_eqb (length l) 24 (λ e. omega arith)))
@@ -137,7 +137,7 @@ reading_here line more s e = sym (ap reading_of (shows_kept line [] more (shows_
 pub held_part : (line : Line) → length line.bytes ≡ 25 → take (min line.len 25) line.bytes ≡ held_in line
 unfolding held_in
 held_part line s =
-    by-test (ltb line.len 25)
+    by_test (ltb line.len 25)
     (λ (t : ltb line.len 25 ≡ true). let h = ltb-true line.len 25 t in let m : min line.len 25 ≡ line.len = omega arith in rw m)
     (λ (t : ltb line.len 25 ≡ false).
     let h = ltb-false line.len 25 t in

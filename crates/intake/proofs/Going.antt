@@ -115,3 +115,18 @@ module _ (book : Book) (line : Line) where
           (book_after_all book (pick t [] (held_in line ∷ [])) ≡ book_after book (held_in line)) × (answers_to book (pick t [] (held_in line ∷ [])) ≡ answer_to book (held_in line))
       ends true q = clash (sym q)
       ends false q = (refl, append-nil (answer_to book (held_in line)))
+
+  -- the same one by one, as `last_line` comes to it
+  pub last_book_none : line.len ≡ 0 → book_after_all book (last_in line) ≡ book
+  last_book_none e = (last_none e).0
+
+  pub last_answers_none : line.len ≡ 0 → answers_to book (last_in line) ≡ []
+  last_answers_none e = (last_none e).1
+
+  pub last_book_some : (line.len ≡ 0 → ⊥) → book_after_all book (last_in line) ≡ book_after book (held_in line)
+  last_book_some e = (last_some e).0
+
+  pub last_answers_some : (line.len ≡ 0 → ⊥) → answers_to book (last_in line) ≡ answer_to book (held_in line)
+  last_answers_some e = (last_some e).1
+
+pub ruleset last_one = (last_book_none, last_answers_none, last_book_some, last_answers_some, put_nothing)

@@ -9,7 +9,7 @@ use native.Mathlib.Omega.{arith}
 use lib.Dec.{leb, eqb, ltb}
 use lib.IntN.{pos}
 use borrow.Author.Tests.{leb-true, eqb-true}
-use Rattle.whole.proofs.Choice.{by-test, passed, all_passed, kept_new}
+use Rattle.whole.proofs.Choice.{by_test, passed, all_passed, kept_new}
 use Rattle.units.specs.Limits.{is_days}
 use Rattle.units.specs.Refusals.{wrong_length, not_in_month}
 use Rattle.history.specs.Rules.{Call}
@@ -48,7 +48,7 @@ module _ (book : Book) (k : book_refusal book ≡ 0) where
 
   pub book_runs : runs_fit (month_rules book.days) book.board ≡ true
   book_runs =
-      by-test book.opened
+      by_test book.opened
       (λ (o : book.opened ≡ true). good_runs (month_rules book.days) (month_sound book.days (book_days o)) book.board (book_good o))
       (λ (o : book.opened ≡ false). (passed (runs_fit (month_rules book.days) book.board) 0 0 (rw o at k)).0)
 
@@ -67,7 +67,7 @@ end_room book out e = let p = passed (leb 40 out) 0 _ e in (leb-true 40 out p.0,
 call_kept : (book : Book) (c : Call Fee Item) → book_refusal book ≡ 0 → book_refusal (call_book book c) ≡ 0
 unfolding call_book
 call_kept book c k =
-    by-test book.opened
+    by_test book.opened
     (λ (o : book.opened ≡ true).
     let R = month_rules book.days in
     let sound = month_sound book.days (book_days book k o) in
@@ -81,7 +81,7 @@ asked_kept book (some c) k = call_kept book c k
 open_kept : (book : Book) (days : ℕ) → book_refusal book ≡ 0 → book_refusal (open_book book days) ≡ 0
 unfolding open_book open_refusal open_ruling
 open_kept book days k =
-    by-test (eqb (open_refusal book days) 0)
+    by_test (eqb (open_refusal book days) 0)
     (λ (t : eqb (open_refusal book days) 0 ≡ true).
     let z = (passed (not book.opened) 13 _ (eqb-true (open_refusal book days) 0 t)).1 in
     let d = (all_passed ((runs_fit (month_rules days) book.board, wrong_length) ∷ (is_days days, not_in_month) ∷ []) refl z).1.0 in
@@ -91,7 +91,7 @@ open_kept book days k =
 frame_kept : (book : Book) (e : Entry) → book_refusal book ≡ 0 → book_refusal (frame_book book e) ≡ 0
 unfolding frame_book
 frame_kept book e k =
-    by-test (eqb e.kind open_kind)
+    by_test (eqb e.kind open_kind)
     (λ (t : eqb e.kind open_kind ≡ true). rw t (open_kept book e.day k))
     (λ (t : eqb e.kind open_kind ≡ false). rw t (asked_kept book (call_of e) k))
 
@@ -102,7 +102,7 @@ in_kept book (Refused n) k = k
 after_kept : (book : Book) (l : List ℕ) → book_refusal book ≡ 0 → book_refusal (book_after book l) ≡ 0
 unfolding book_after
 after_kept book l k =
-    by-test (ltb book.count most_lines)
+    by_test (ltb book.count most_lines)
     (λ (t : ltb book.count most_lines ≡ true). rw t (in_kept book (reading_of l) k))
     (λ (t : ltb book.count most_lines ≡ false). rw t k)
 

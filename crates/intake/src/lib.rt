@@ -1,6 +1,8 @@
 // The program `ledger` between its input and its output: lines are cut, taken to the ledger (crate book) and answered.
 //
 // The month's places are two lent runs, marks and amounts; the rest goes by value from chunk to chunk.
+#![tactic(auto)]
+
 ghost use Rattle.std.specs.Prelude.{◌+◌, ◌*◌, ◌≤◌, ◌≡◌, length};
 ghost use Rattle.units.specs.Units.{dollars};
 ghost use Rattle.text.specs.Text.{put};
@@ -20,28 +22,28 @@ mod print;
 pub const MOST: u64 = 1_000_000;
 
 // A line that has begun: at most 25 bytes of it.
-#[derive(Drop)]
+#[derive(Clone, Copy)]
 pub struct Line {
     pub bytes: [u8; 25],
     pub len: usize,
 }
 
 // What goes from chunk to chunk.
-#[derive(Drop)]
+#[derive(Clone, Copy)]
 pub struct Progress {
     pub cover: Cover,
     pub line: Line,
 }
 
 // What a chunk comes to: the next state, and how many bytes of answers were written.
-#[derive(Drop)]
+#[derive(Clone, Copy)]
 pub struct Fed {
     pub refusal: u8,
     pub state: Progress,
     pub written: usize,
 }
 
-#[derive(Drop)]
+#[derive(Clone, Copy)]
 pub struct Finished {
     pub refusal: u8,
     pub written: usize,
@@ -253,6 +255,7 @@ fn finish_all(state: Progress, marks: &mut [bool], amounts: &mut [i64], out: &mu
 }
 
 // The line at the input's end, if it has a byte.
+#[tactic(auto, using(crate::proofs::Going::last_one))]
 fn last_line(state: Progress, marks: &mut [bool], amounts: &mut [i64], out: &mut [u8]) -> Work
     requires { 12 ≤ length out.old }
     ensures book { book_of result.cover marks.new amounts.new ≡ last_book state marks.old amounts.old }

@@ -13,7 +13,7 @@ use borrow.Author.Tests.{eqb-true, eqb-false}
 use denote.Triple.Clauses.{AtExit}
 use denote.Ref.{Bor}
 use Rattle.whole.specs.Choice.{pick}
-use Rattle.whole.proofs.Choice.{by-test, passed, both_passed}
+use Rattle.whole.proofs.Choice.{by_test, passed, both_passed}
 use Rattle.units.specs.Limits.{is_amount}
 use Rattle.units.specs.declared.Millihertz.{Millihertz}
 use Rattle.history.specs.Rules.{Call}
@@ -108,6 +108,6 @@ joint_able days m o (a ∷ before) =
     let w = a.worked in
     let n = month_after m before in
     let run = joint_able days m o before in
-    by-test (eqb (kept_from w) 0)
+    by_test (eqb (kept_from w) 0)
     (λ (t : eqb (kept_from w) 0 ≡ true). rw t (by_joint (events_after m before) w n a.day a.hour (joint_answer a n) run refl (eqb-true (kept_from w) 0 t)))
     (λ (t : eqb (kept_from w) 0 ≡ false). rw t (by_refused (events_after m before) w n a.day a.hour (joint_answer a n) run refl (eqb-false (kept_from w) 0 t)))

@@ -9,7 +9,7 @@ use contract.Lifetimes.{Lfts}
 use denote.Triple.Clauses.{AtExit}
 use borrow.Fn.Kinds.{Dens, GoodsP, ended_of}
 use borrow.Author.Tests.{eq-eqb, ne_eqb, eqb-true}
-use Rattle.whole.proofs.Choice.{by-test, both_passed}
+use Rattle.whole.proofs.Choice.{by_test, both_passed}
 use Rattle.units.specs.Limits.{is_amount, seconds_of_hour}
 use Rattle.history.specs.Rules.{Call}
 use Rattle.head.specs.Rules.{amount_item}
@@ -38,7 +38,7 @@ module _ (worked : Settlement) (m : Month) (d x : ℕ) where
 
   number_zero : (posted_of worked m d x).hour.refusal ≡ 0 → number ≡ 0
   unfolding posted_of joined refused_hour
-  number_zero z = by-test (eqb number 0) (λ (t : eqb number 0 ≡ true). eqb-true number 0 t) (λ (t : eqb number 0 ≡ false). rw t at z)
+  number_zero z = by_test (eqb number 0) (λ (t : eqb number 0 ≡ true). eqb-true number 0 t) (λ (t : eqb number 0 ≡ false). rw t at z)
 
   pub posted_granted : (posted_of worked m d x).hour.refusal ≡ 0 → (worked.refusal ≡ 0) × ((posted_of worked m d x).hour ≡ worked)
   unfolding posted_of joined
@@ -47,7 +47,7 @@ module _ (worked : Settlement) (m : Month) (d x : ℕ) where
   pub posted_bare : ((posted_of worked m d x).hour.refusal ≡ 0 → ⊥) → posted_of worked m d x ≡ refused_beside m (posted_of worked m d x).hour.refusal
   unfolding posted_of joined refused_hour
   posted_bare f =
-      by-test (eqb number 0)
+      by_test (eqb number 0)
       (λ (t : eqb number 0 ≡ true). absurd (f (rw t (both_passed worked.refusal _ (eqb-true number 0 t)).0)))
       (λ (t : eqb number 0 ≡ false). rw t)
 
@@ -55,9 +55,9 @@ module _ (worked : Settlement) (m : Month) (d x : ℕ) where
   pub kept_is : (kept_from worked ≡ 0 → ⊥) → posted_of worked m d x ≡ refused_beside m (kept_from worked)
   unfolding posted_of joined
   kept_is f =
-      by-test (eqb worked.refusal 0)
+      by_test (eqb worked.refusal 0)
       (λ (z : eqb worked.refusal 0 ≡ true).
-      by-test (is_amount worked.amount.0)
+      by_test (is_amount worked.amount.0)
       (λ (r : is_amount worked.amount.0 ≡ true). absurd (f (rw (z, r))))
       (λ (r : is_amount worked.amount.0 ≡ false). rw (z, r)))
       (λ (z : eqb worked.refusal 0 ≡ false). rw (z, z))

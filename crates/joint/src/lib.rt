@@ -1,5 +1,7 @@
 // The joint calls: an hour worked out and its amount posted. They stand above the ledger and use the ledger's
 // contracts only.
+#![tactic(auto)]
+
 ghost use Rattle.std.specs.Prelude.{◌≡◌};
 ghost use Rattle.hour.specs.Hour.{edreg_hour};
 ghost use Rattle.sreg_hour.specs.Hour.{sreg_hour};
@@ -14,14 +16,14 @@ use units::{Millihertz, limits, refusals};
 const LEAST: i64 = -limits::AMOUNT;
 
 // The hour's numbers, its refusal first, and the ledger after it.
-#[derive(Drop)]
+#[derive(Clone, Copy)]
 pub struct Joined {
     pub hour: Settlement,
     pub month: Month,
 }
 
 // The same of an sReg hour, and the state that it ends in; `Outside` beside any refusal, the ledger's too.
-#[derive(Drop)]
+#[derive(Clone, Copy)]
 pub struct StateJoined {
     pub joined: Joined,
     pub state: EventState,

@@ -10,7 +10,7 @@ use lib.ListN.{length, get_or, take, drop, length-append, length-drop, take-appe
 use lib.Seq.{drop-drop, length-take-le}
 use borrow.Author.Tests.{eq-eqb, ne_eqb}
 use Rattle.whole.specs.Choice.{pick}
-use Rattle.whole.proofs.Choice.{by-test, clash}
+use Rattle.whole.proofs.Choice.{by_test, clash}
 use Rattle.whole.proofs.Runs.{rest, no_rest}
 use Rattle.lines.specs.Lines.{line_end, lines_after, lines_of, before_end}
 use Rattle.lines.specs.Inner.{ends_of, is_begun, no_end}
@@ -27,10 +27,13 @@ module _ (chunk : List ℕ) (i : ℕ) where
   pub before_done : length chunk ≤ i → i ≡ i + length (before_end (drop i chunk))
   before_done h = rw (no_rest chunk i h) (omega arith)
 
+-- what `first_end` goes by: a byte that ends the line, one that does not, and the end of the bytes
+pub ruleset ending = (before_next, before_ends, before_done)
+
 pub before_take : (xs : List ℕ) → take (length (before_end xs)) xs ≡ before_end xs
 before_take [] = refl
 before_take (x ∷ xs) =
-    by-test (eqb x line_end)
+    by_test (eqb x line_end)
     (λ (t : eqb x line_end ≡ true). rw t)
     (λ (t : eqb x line_end ≡ false). rw t (ap (λ (r : List ℕ). x ∷ r) (before_take xs)))
 
@@ -47,7 +50,7 @@ module _ (bytes : List ℕ) (i : ℕ) (none : Bool) (e : no_end bytes ≡ none &
 before_append : (xs ys : List ℕ) → no_end xs ≡ true → length (before_end (xs ++ ys)) ≡ length xs + length (before_end ys)
 before_append [] ys e = omega arith
 before_append (x ∷ xs) ys e =
-    by-test (eqb x line_end)
+    by_test (eqb x line_end)
     (λ (t : eqb x line_end ≡ true). let z : ◌≡◌ {A = Bool} false true = rw t at e in clash z)
     (λ (t : eqb x line_end ≡ false). let z : no_end xs ≡ true = rw t at e in rw t (omega (arith, before_append xs ys z)))
 
@@ -65,7 +68,7 @@ pub lines_next : (begun xs : List ℕ) → 0 < length begun + length xs
     → lines_after begun xs ≡ (begun ++ before_end xs) ∷ lines_of (drop (suc (length (before_end xs))) xs)
 lines_next begun [] h = rw (ne_eqb (length begun) 0 (λ e. omega arith), append-nil)
 lines_next begun (x ∷ xs) h =
-    by-test (eqb x line_end)
+    by_test (eqb x line_end)
     (λ (t : eqb x line_end ≡ true). rw (t, append-nil))
     (λ (t : eqb x line_end ≡ false).
     rw t (lines_next (begun ++ (x ∷ [])) xs (omega (arith, length-append begun (x ∷ []))) ∙ rw append_assoc))
@@ -99,7 +102,7 @@ counts_begun false begun e = refl
 pub counts : (begun xs : List ℕ) → length (lines_after begun xs) ≡ ends_in (not (eqb (length begun) 0)) xs
 counts begun [] = counts_begun (eqb (length begun) 0) begun refl
 counts begun (x ∷ xs) =
-    by-test (eqb x line_end)
+    by_test (eqb x line_end)
     (λ (t : eqb x line_end ≡ true). let e = counts [] xs in rw t (omega arith))
     (λ (t : eqb x line_end ≡ false). let e = counts (begun ++ (x ∷ [])) xs ∙ ap (λ (s : Bool). ends_in s xs) (begun_more begun x) in rw t (omega (arith, e)))
 
@@ -132,7 +135,7 @@ ends_all xs = counts [] xs ∙ ends_begun false xs ∙ ap (λ (t : Bool). ends_o
 pub ends_most : (xs : List ℕ) → ends_of xs ≤ length xs
 ends_most [] = omega arith
 ends_most (x ∷ xs) =
-    by-test (eqb x line_end)
+    by_test (eqb x line_end)
     (λ (t : eqb x line_end ≡ true). rw t (omega (arith, ends_most xs)))
     (λ (t : eqb x line_end ≡ false). rw t (omega (arith, ends_most xs)))
 
@@ -158,7 +161,7 @@ module _ (bytes : List ℕ) (i : ℕ) where
 before_le : (xs : List ℕ) → length (before_end xs) ≤ length xs
 before_le [] = omega arith
 before_le (x ∷ xs) =
-    by-test (eqb x line_end)
+    by_test (eqb x line_end)
     (λ (t : eqb x line_end ≡ true). rw t (omega arith))
     (λ (t : eqb x line_end ≡ false). rw t (omega (arith, before_le xs)))
 

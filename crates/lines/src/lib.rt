@@ -1,4 +1,6 @@
 // Lines of a run of bytes, as `ledger` and `import` cut them.
+#![tactic(auto)]
+
 ghost use Rattle.std.specs.Prelude.{◌+◌, ◌^◌, ◌<◌, ◌≤◌, min, ◌≡◌, true, length, take, drop};
 ghost use Rattle.whole.specs.Choice.{pick};
 ghost use Rattle.lines.specs.Lines.{lines_of, before_end};
@@ -117,6 +119,7 @@ fn no_end(bytes: &[u8]) -> bool
 }
 
 // The same place byte by byte.
+#[tactic(auto, using(crate::proofs::Lines::ending))]
 fn first_end(bytes: &[u8], from: usize) -> usize
     ensures { result ≡ from + length (before_end (drop from bytes.now)) }
 {

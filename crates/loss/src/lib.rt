@@ -1,4 +1,6 @@
 // The loss fee of a month.
+#![tactic(auto)]
+
 ghost use Rattle.std.specs.Prelude.{◌≡◌};
 ghost use Rattle.loss.specs.Loss.{at_least_zero, percent, loss_refusal, added, basic_fee, excess_fee, loss_answer};
 
@@ -10,7 +12,7 @@ const PARTS: i64 = 100 * 10_000;
 const FIFTHS: i64 = 5 * PARTS;
 
 // The loss fee, or the number of its refusal with zeros.
-#[derive(Drop)]
+#[derive(Clone, Copy)]
 pub struct LossFee {
     pub refusal: u8,
     pub basic: Dollars,
@@ -72,6 +74,7 @@ fn at_least_zero(z: i64) -> i64
 }
 
 // The factor of a voltage, in percent.
+#[tactic(auto, unfolding(crate::specs::Loss::percent))]
 fn percent(voltage: i64) -> i64
     ensures { result ≡ percent voltage }
 {

@@ -10,7 +10,7 @@ use mir.Val.{bool_byte}
 use lib.IntN.{ℤ, pos}
 use lib.ListN.{length, replicate}
 use Rattle.whole.specs.Choice.{pick}
-use Rattle.whole.proofs.Choice.{by-test, kept_old}
+use Rattle.whole.proofs.Choice.{by_test, kept_old}
 use Rattle.history.specs.Rules.{Call, Deed}
 use Rattle.history.specs.Board.{Board, well_formed, handed, refusal_of, next_of}
 use Rattle.history.specs.Inner.{runs_fit, ruled_in, handed_in}
@@ -69,7 +69,7 @@ pub answer_head : (m : Month) (c : Call Fee Item) → length m.marks ≡ month_p
 unfolding head_booked
 answer_head m c lf lx heads headed head n h =
     ap (head_booked m) (n ∙ ap (λ (x : Head). headed_of x c) h)
-    ∙ by-test (well_formed (rules_of m) (board_of m))
+    ∙ by_test (well_formed (rules_of m) (board_of m))
     (λ (w : well_formed (rules_of m) (board_of m) ≡ true).
     let f = formed m refl (ap not w) lf lx in
     let is = heads (good_runs (rules_of m) (month_sound m.days (well_days m w)) (board_of m) f.good) in
@@ -92,14 +92,14 @@ answer_at m c deed d x came k head place gs ys f h p number board =
 pub refused_same : (m : Month) (c : Call Fee Item) → ((month_answer m c).refusal ≡ 0 → ⊥) → (month_answer m c).month ≡ m
 unfolding month_answer refusal_of next_of handed
 refused_same m c f =
-    by-test (well_formed (rules_of m) (board_of m))
+    by_test (well_formed (rules_of m) (board_of m))
     (λ (w : well_formed (rules_of m) (board_of m) ≡ true). rw w (ap (month_of m.days) (kept_old _ (board_of m) (λ z. f (rw w z)))))
     (λ (w : well_formed (rules_of m) (board_of m) ≡ false). rw w)
 
 -- an open, from the head's answer
 pub open_is : (days : ℕ) → booked_of (opened_head days).refusal (opened_head days).head (replicate month_places false) (replicate month_places (pos 0)) ≡ open_of days
 unfolding open_of opened_head fresh_month
-open_is days = by-test (is_days days) (λ (t : is_days days ≡ true). rw t) (λ (t : is_days days ≡ false). rw t)
+open_is days = by_test (is_days days) (λ (t : is_days days ≡ true). rw t) (λ (t : is_days days ≡ false). rw t)
 
 -- a mark as a number
 pub byte_is : (b : Bool) → bool_byte b ≡ pick b 1 0

@@ -9,7 +9,7 @@ use lib.ListN.{get_or}
 use native.Mathlib.Nat.{add-zero}
 use borrow.Author.Tests.{not-true}
 use Rattle.whole.specs.Folds.{sum_to}
-use Rattle.whole.proofs.Choice.{by-test}
+use Rattle.whole.proofs.Choice.{by_test}
 use Rattle.units.specs.Limits.{hours_of_day, month_places}
 use Rattle.units.specs.Refusals.{not_reachable, not_in_month}
 use Rattle.history.specs.Rules.{hours_to, inside, place_in}
@@ -33,7 +33,7 @@ told_22 m t {b} test failed = rw (sym test ∙ not-true b failed)
 pub total_is_lem : (m : Month) → runs_fit (rules_of m) (board_of m) ≡ true → told_of (total_in (rules_of m) (board_of m)) ≡ total_told m
 unfolding total_told total_in ledger_refusal
 total_is_lem m runs =
-    by-test (well_formed (rules_of m) (board_of m))
+    by_test (well_formed (rules_of m) (board_of m))
     (λ (w : well_formed (rules_of m) (board_of m) ≡ true). rw (runs, w))
     (λ (w : well_formed (rules_of m) (board_of m) ≡ false). rw (runs, w))
 
@@ -48,7 +48,7 @@ module _ (m : Month) (w : well_formed (rules_of m) (board_of m) ≡ true) where
 
   -- a day that is none of the month's has no hour 0 in it, and a day of the month has one
   pub first_hour : (d : ℕ) → inside (rules_of m) d 0 ≡ (leb 1 d && leb d m.days)
-  first_hour d = by-test (leb 1 d && leb d m.days) (λ (t : (leb 1 d && leb d m.days) ≡ true). rw t) (λ (t : (leb 1 d && leb d m.days) ≡ false). rw t)
+  first_hour d = by_test (leb 1 d && leb d m.days) (λ (t : (leb 1 d && leb d m.days) ≡ true). rw t) (λ (t : (leb 1 d && leb d m.days) ≡ false). rw t)
 
   pub day_6 : (d : ℕ) → inside (rules_of m) d 0 ≡ false → told_of (not_in_month, pos 0) ≡ day_told m d
   unfolding day_told day_on

@@ -4,7 +4,7 @@ use mathlib.Core.Path.{◌≡◌, refl, ap, ◌∙◌}
 use mathlib.Core.Bool.{true, false}
 use lib.IntN.{ℤ, pos}
 use Rattle.whole.specs.Refused.{RefusedBare}
-use Rattle.whole.proofs.Choice.{by-test, kept_old}
+use Rattle.whole.proofs.Choice.{by_test, kept_old}
 use Rattle.history.specs.Rules.{Call}
 use Rattle.history.specs.Board.{well_formed, hour_on, day_on}
 use Rattle.units.specs.Limits.{is_days}
@@ -50,7 +50,7 @@ use Rattle.month.proofs.Month.standing.Kinds as standing_kinds
 open_refused_keeps : RefusedBare 0 open_kinds.ps open_kinds.r (λ κs x. x.refusal) (λ κs a k. record { refusal = k; month = fresh_month 0 }) open_reads.Post
 unfolding open_of
 open_refused_keeps κs a x s p f =
-    by-test (is_days a.0)
+    by_test (is_days a.0)
     (λ (t : is_days a.0 ≡ true). absurd (f (ap (λ (b : Booked). b.refusal) p ∙ rw t)))
     (λ (t : is_days a.0 ≡ false).
     let left : x.month ≡ fresh_month 0 = ap (λ (b : Booked). b.month) p ∙ rw t in
@@ -87,7 +87,7 @@ no_figure m t x none p f = λ i. record { refusal = x.refusal; amount = left i }
   where
     left : x.amount ≡ dollars (pos 0)
     left =
-        by-test (well_formed (rules_of m) (board_of m))
+        by_test (well_formed (rules_of m) (board_of m))
         (λ (w : well_formed (rules_of m) (board_of m) ≡ true).
         let q : x ≡ told_of t = p ∙ rw w in
         ap (λ (y : Told). y.amount) q ∙ ap dollars (none (λ e. f (ap (λ (y : Told). y.refusal) q ∙ e))))
@@ -116,7 +116,7 @@ total_refused_keeps κs a x s p f = no_figure a.0 _ x (λ e. absurd (e refl)) p 
 standing_refused_keeps : RefusedBare 0 standing_kinds.ps standing_kinds.r (λ κs x. x.refusal) (λ κs a k. record { refusal = k; standing = 0 }) standing_reads.Post
 unfolding standing_told
 standing_refused_keeps κs a x s p f =
-    by-test (well_formed (rules_of a.0) (board_of a.0))
+    by_test (well_formed (rules_of a.0) (board_of a.0))
     (λ (w : well_formed (rules_of a.0) (board_of a.0) ≡ true). absurd (f (ap (λ (t : Counted). t.refusal) p ∙ rw w)))
     (λ (w : well_formed (rules_of a.0) (board_of a.0) ≡ false).
     let none : x.standing ≡ 0 = ap (λ (t : Counted). t.standing) p ∙ rw w in

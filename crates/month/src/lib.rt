@@ -2,6 +2,8 @@
 //
 // The calls on a `Month` by value refuse with 22 a ledger that no run of calls hands back, and go through the calls in
 // place (crate board) or on the head (crate head).
+#![tactic(auto)]
+
 ghost use Rattle.std.specs.Prelude.{◌+◌, ◌≤◌, ◌≡◌, false, pos, length, get_or, take, drop};
 ghost use Rattle.whole.specs.Folds.{count_to};
 ghost use Rattle.whole.specs.Inner.{summed};
@@ -19,7 +21,7 @@ use board::Told;
 use head::{Head, Headed};
 use units::{Dollars, limits, refusals};
 
-#[derive(Drop)]
+#[derive(Clone, Copy)]
 pub struct Month {
     pub days: u8,
     pub closed: bool,
@@ -30,14 +32,14 @@ pub struct Month {
 }
 
 // What a call answers: its refusal, and the ledger that it hands back.
-#[derive(Drop)]
+#[derive(Clone, Copy)]
 pub struct Booked {
     pub refusal: u8,
     pub month: Month,
 }
 
 // What the count of standing hours answers.
-#[derive(Drop)]
+#[derive(Clone, Copy)]
 pub struct Counted {
     pub refusal: u8,
     pub standing: usize,

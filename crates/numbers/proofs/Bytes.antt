@@ -11,7 +11,7 @@ use lib.IntN.{ℤ}
 use lib.ListN.{length}
 use lib.Seq.{length-take-le}
 use borrow.Author.Tests.{leb-true, leb-false}
-use Rattle.whole.proofs.Choice.{by-test}
+use Rattle.whole.proofs.Choice.{by_test}
 use Rattle.whole.proofs.Runs.{length_listed}
 use Rattle.numbers.specs.Numbers.{number, byte_of, as_bytes, scores_in}
 use Rattle.numbers.specs.Inner.{first_four, taken}
@@ -51,7 +51,7 @@ four_many n h = ap length (four_is n) ∙ length_bytes n (min (length n) 4) ∙ 
 -- all of them, or four of more
 four_of : (n : List ℤ) → (taken (first_four n) ≡ scores_in n) ⊎ ((length (taken (first_four n)) ≡ 4) × (4 < length (scores_in n)))
 four_of n =
-    by-test (leb (length n) 4) (λ (t : leb (length n) 4 ≡ true). inl (four_all n (leb-true (length n) 4 t)))
+    by_test (leb (length n) 4) (λ (t : leb (length n) 4 ≡ true). inl (four_all n (leb-true (length n) 4 t)))
     (λ (t : leb (length n) 4 ≡ false).
     let h = leb-false (length n) 4 t in inr (four_many n h, rw (length_bytes n (length n)) h))
 

@@ -1,4 +1,6 @@
 // A question's numbers: cut by their shape, and what they are read as.
+#![tactic(auto)]
+
 ghost use Rattle.std.specs.Prelude.{◌≤◌, ◌≡◌, length};
 ghost use Rattle.whole.specs.Choice.{pick};
 ghost use Rattle.numbers.specs.Numbers.{byte_of, as_bytes, column};
@@ -11,7 +13,7 @@ mod cutting;
 
 // A list among a question's numbers: from where to where its entries stand, and whether its count is one from 0 to
 // 100 (any other counts as 0).
-#[derive(Drop)]
+#[derive(Clone, Copy)]
 pub struct Span {
     pub start: usize,
     pub end: usize,
@@ -19,7 +21,7 @@ pub struct Span {
 }
 
 // Where the parts of a question's numbers stand, and the fault of their count: 103, 104, or 0 for none.
-#[derive(Drop)]
+#[derive(Clone, Copy)]
 pub struct Places {
     pub fault: u8,
     pub first: Span,
@@ -31,7 +33,7 @@ pub struct Places {
 
 // The scores before an hour, as a question has them: how many, and the scores as bytes. Of more than four it has the
 // first four: an hour takes none or three, and any other number is refused whatever they say.
-#[derive(Drop)]
+#[derive(Clone, Copy)]
 pub struct Earlier {
     pub count: usize,
     pub scores: [u8; 4],

@@ -5,7 +5,7 @@ use mathlib.Core.Bool.{true, false}
 use lib.Ieee.{binary32, to_bits}
 use Rattle.whole.specs.Choice.{in_order}
 use Rattle.whole.specs.Refused.{RefusedBare}
-use Rattle.whole.proofs.Choice.{by-test}
+use Rattle.whole.proofs.Choice.{by_test}
 use Rattle.whole.proofs.Refused.{refused_bare}
 use Rattle.pair.specs.Pair.{pair_tests, whole_pair, no_pair, rounded_bits, rounded_pair, are_finite, logged_bits}
 use Rattle.pair.specs.declared.Logged.{Logged}
@@ -31,6 +31,6 @@ number (Refused k) = k
 from_bits_refused_keeps : RefusedBare 0 from_bits_kinds.ps from_bits_kinds.r (λ κs. number) (λ κs a. Refused) from_bits.Post
 unfolding logged_bits
 from_bits_refused_keeps κs (f, (p, end)) x s e n =
-    by-test (are_finite f p)
+    by_test (are_finite f p)
     (λ (t : are_finite f p ≡ true). absurd (n (ap number (rw t at e))))
     (λ (t : are_finite f p ≡ false). let r = rw t at e in cc)

@@ -1,4 +1,6 @@
 // A logger's pair of singles in whole millihertz and kilowatts, worked from the bits.
+#![tactic(auto)]
+
 ghost use Rattle.std.specs.Prelude.{◌<◌, ◌≤◌, ◌-◌, ◌*◌, ◌^◌, ◌≡◌, leb};
 ghost use Rattle.whole.specs.Whole.{half_up};
 ghost use Rattle.pair.specs.Single.{exponent_of, is_special, significand, signed_by, whole_of};
@@ -7,14 +9,14 @@ ghost use Rattle.pair.specs.Pair.{no_pair, rounded_bits, rounded_pair, logged_bi
 use units::{Kilowatts, Millihertz, limits, refusals};
 
 // A second as the logger sends it: hertz and kilowatts.
-#[derive(Drop)]
+#[derive(Clone, Copy)]
 pub struct Pair {
     pub frequency: f32,
     pub power: f32,
 }
 
 // The same in whole numbers, or its refusal with zeros.
-#[derive(Drop)]
+#[derive(Clone, Copy)]
 pub struct Rounded {
     pub refusal: u8,
     pub frequency: Millihertz,
@@ -22,13 +24,14 @@ pub struct Rounded {
 }
 
 // The pair of two patterns of bits, or its refusal.
-#[derive(Drop)]
+#[derive(Clone, Copy)]
 pub enum Logged {
     Finite(Pair),
     Refused(u8),
 }
 
 // A pair in whole millihertz and kilowatts, or 17 or 4. A NaN alone has no bits, so it is found by the single.
+#[tactic(auto, using(crate::proofs::Pairs::converting), unfolding(crate::specs::Pair::rounded_pair))]
 pub fn convert(pair: Pair) -> Rounded
     ensures { result ≡ rounded_pair pair }
 {

@@ -9,7 +9,7 @@ use lib.Dec.{eqb}
 use lib.ListN.{length, get_or, take, drop, length-drop}
 use lib.Seq.{length-take-le, take-add, drop-drop}
 use borrow.Author.Tests.{eqb-true}
-use Rattle.whole.proofs.Choice.{by-test, both_passed, all_passed}
+use Rattle.whole.proofs.Choice.{by_test, both_passed, all_passed}
 use Rattle.units.specs.Refusals.{bad_kind}
 use Rattle.frame.specs.Digits.{digits_of, bytes_of}
 use Rattle.frame.specs.Numbers.{bytes_in}
@@ -53,7 +53,7 @@ module _ (line : List ℕ) (second f p : ℕ) (reads : sent_of line ≡ sent sec
   number_none : sent_refusal line ≡ 0
   unfolding sent_of sent_in no_sent
   number_none =
-      by-test (eqb (sent_refusal line) 0)
+      by_test (eqb (sent_refusal line) 0)
       (λ (t : eqb (sent_refusal line) 0 ≡ true). eqb-true (sent_refusal line) 0 t)
       (λ (t : eqb (sent_refusal line) 0 ≡ false). let e = rw t at reads in ap (λ (s : Sent). s.refusal) e)
 

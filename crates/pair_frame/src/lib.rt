@@ -1,4 +1,6 @@
 // The frame of a logger's pair: a line of 24 digits as the ledger's are, and the second and the bits that it holds.
+#![tactic(auto)]
+
 ghost use Rattle.std.specs.Prelude.{◌≡◌, [], ◌∷◌, ◌++◌, length};
 ghost use Rattle.frame.specs.Numbers.{number_of};
 ghost use Rattle.frame.specs.Frame.{close_refusal, closed};
@@ -9,7 +11,7 @@ use units::refusals;
 const KIND: u8 = 0x10;
 
 // What a line holds, the pair by its bits; or its refusal with zeros.
-#[derive(Drop)]
+#[derive(Clone, Copy)]
 pub struct Sent {
     pub refusal: u8,
     pub second: u16,

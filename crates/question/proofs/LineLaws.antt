@@ -11,7 +11,7 @@ use lib.ListN.{length, get_or, length-append}
 use mir.Syntax.{w64}
 use mir.Val.{SFits}
 use Rattle.whole.specs.Choice.{kept}
-use Rattle.whole.proofs.Choice.{by-test, clash, kept_any}
+use Rattle.whole.proofs.Choice.{by_test, clash, kept_any}
 use Rattle.units.specs.Limits.{seconds_of_hour, seconds_of_quarter}
 use Rattle.units.specs.Units.{kilowatts}
 use Rattle.ramp.specs.Ramp.{ramp_of, ramp_refusal}
@@ -61,13 +61,13 @@ Short all = leb (length all) seconds_of_quarter ≡ false → length (fields_tex
 module _ (out₀ : List ℕ) (at : ℕ) (all : List ℤ) (out : List ℕ) (to i : ℕ) (left : List ℤ) (h : Short all) (f : Far at all to i) (v : Left out₀ at all out to left) where
   pub next_fits : (z : ℤ) (zs : List ℤ) → left ≡ z ∷ zs → i < length all → length (field z) ≤ 22 → to + length (field z) ≤ at + most_fields
   next_fits z zs e l w =
-      by-test (leb (length all) seconds_of_quarter)
+      by_test (leb (length all) seconds_of_quarter)
       (λ (t : leb (length all) seconds_of_quarter ≡ true). omega (arith, f t, leb-true (length all) seconds_of_quarter t))
       (λ (t : leb (length all) seconds_of_quarter ≡ false). let u = rw e at v in omega (arith, h t, u.0, length-append (field z) (fields_text zs)))
 
   pub all_fit : left ≡ [] → i ≤ length all → to ≤ at + most_fields
   all_fit e l =
-      by-test (leb (length all) seconds_of_quarter)
+      by_test (leb (length all) seconds_of_quarter)
       (λ (t : leb (length all) seconds_of_quarter ≡ true). omega (arith, f t, leb-true (length all) seconds_of_quarter t))
       (λ (t : leb (length all) seconds_of_quarter ≡ false). let u = rw e at v in omega (arith, h t, u.0))
 

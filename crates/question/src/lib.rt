@@ -1,4 +1,6 @@
 // The program `desk` between its reading and its printing: a question's word and numbers in, its lines of text out.
+#![tactic(auto)]
+
 ghost use Rattle.std.specs.Prelude.{◌≤◌, ◌≡◌, length};
 ghost use Rattle.text.specs.Text.{put};
 ghost use Rattle.words.specs.Inner.{unboxed};
@@ -18,7 +20,7 @@ mod parts;
 pub const ROOM: usize = 32_768;
 
 // How a question was answered: the text's length; or 1 and nothing for a run that is too short.
-#[derive(Drop)]
+#[derive(Clone, Copy)]
 pub struct Answered {
     pub refusal: u8,
     pub written: usize,

@@ -7,7 +7,7 @@ use native.Mathlib.Omega.{arith}
 use lib.IntN.{ℤ, pos}
 use lib.ListN.{length}
 use contract.Lifetimes.{Lfts}
-use denote.Ref.{Bor}
+use denote.Ref.{Bor, MutBor}
 use denote.Triple.Clauses.{AtExit}
 use borrow.Fn.Kinds.{ended_of}
 use borrow.Author.Tests.{eq-eqb}
@@ -40,7 +40,7 @@ pub ramp_none : (last target : Kilowatts) (places : ℕ) → places ≡ seconds_
 unfolding ramp_refusal
 ramp_none last target places long l t = rw (eq-eqb places seconds_of_quarter long, within_target last.0 l, within_target target.0 t)
 
-module _ (κs : Lfts 1) (last target : Kilowatts) (seconds : Bor (List ℤ)) (r : ℕ) (s : AtExit (ended_of 1 ramp_kinds.ps ramp_kinds.r) κs)
+module _ (κs : Lfts 1) (last target : Kilowatts) (seconds : MutBor (List ℤ)) (r : ℕ) (s : AtExit (ended_of 1 ramp_kinds.ps ramp_kinds.r) κs)
     (met : ramp.Post κs (last, (target, (seconds, tt))) r s) where
   pub ramp_accepted : r ≡ 0 → Ramped last.0 target.0 (ramp_run κs s)
   unfolding ramp_left
@@ -61,7 +61,7 @@ pub plan_none : (targets : List ℤ) (places : ℕ) → PlanFits targets places 
 unfolding plan_refusal
 plan_none targets places f = rw (eq-eqb (length targets) 5 f.five, eq-eqb places seconds_of_hour f.long, f.inside)
 
-module _ (κs : Lfts 2) (targets seconds : Bor (List ℤ)) (r : ℕ) (s : AtExit (ended_of 2 plan_kinds.ps plan_kinds.r) κs)
+module _ (κs : Lfts 2) (targets : Bor (List ℤ)) (seconds : MutBor (List ℤ)) (r : ℕ) (s : AtExit (ended_of 2 plan_kinds.ps plan_kinds.r) κs)
     (met : plan.Post κs (targets, (seconds, tt)) r s) where
   pub plan_accepted : r ≡ 0 → Planned targets.now (plan_run κs s)
   unfolding plan_left

@@ -12,7 +12,7 @@ use lib.ListN.{length, get_or, get_or-eq_default}
 use borrow.Author.Tests.{eqb-true, eq-eqb, leb-true, leb-false}
 use Rattle.whole.specs.Runs.{listed}
 use Rattle.whole.specs.Whole.{minus, up, down, Within, away, with_sign, round_up}
-use Rattle.whole.proofs.Choice.{by-test, all_passed}
+use Rattle.whole.proofs.Choice.{by_test, all_passed}
 use Rattle.whole.proofs.Signed.{sum, difference, opposite, times, size_product}
 use Rattle.whole.proofs.Runs.{length_listed, listed_same, get_d_listed}
 use Rattle.whole.proofs.Rounding.{away_within, away_only, sign_up, sign_down}
@@ -64,7 +64,7 @@ between last target (negsuc d) n h l t e =
 pub ramp_within : (last target : ℤ) (n : ℕ) → Within most_transfer last → Within most_transfer target → Within most_transfer (ramp_at last target n)
 unfolding ramp_at
 ramp_within last target n l t =
-    by-test (leb n seconds_of_ramp)
+    by_test (leb n seconds_of_ramp)
     (λ (e : leb n seconds_of_ramp ≡ true). rw e (between last target (target -ℤ last) n (leb-true n seconds_of_ramp e) l t (difference target last)))
     (λ (e : leb n seconds_of_ramp ≡ false). rw e t)
 
@@ -86,7 +86,7 @@ ramp_reaches last target = rw (whole_part (target -ℤ last)) (+ℤ_comm last (t
 pub ramp_level : (z : ℤ) (n : ℕ) → ramp_at z z n ≡ z
 unfolding ramp_at
 ramp_level z n =
-    by-test (leb n seconds_of_ramp)
+    by_test (leb n seconds_of_ramp)
     (λ (e : leb n seconds_of_ramp ≡ true). rw (e, +ℤ_invr z, zero-*ℤ (pos n), whole_part (pos 0)) (+ℤ_idr z))
     (λ (e : leb n seconds_of_ramp ≡ false). rw e)
 
@@ -95,7 +95,7 @@ ramp_level z n =
 -- a target past the list's end is 0
 at_target : (targets : List ℤ) (q : ℕ) → are_transfers targets ≡ true → is_transfer (get_or targets q (pos 0)) ≡ true
 at_target targets q e =
-    by-test (leb (length targets) q)
+    by_test (leb (length targets) q)
     (λ (t : leb (length targets) q ≡ true). rw (get_or-eq_default targets (pos 0) (leb-true (length targets) q t)) (within_target (pos 0) (omega arith)))
     (λ (t : leb (length targets) q ≡ false). all_inside (minus most_transfer) (pos most_transfer) targets e q (omega (arith, leb-false (length targets) q t)))
 

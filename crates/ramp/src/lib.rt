@@ -1,4 +1,6 @@
 // The transfer ramp (document 000, formula 1): what an E-dReg battery transfers in each second of a quarter.
+#![tactic(auto)]
+
 ghost use Rattle.std.specs.Prelude.{◌≡◌, ℕ, ◌*◌, ◌≤◌, ◌<◌, pos, ◌*ℤ◌, length};
 ghost use Rattle.whole.specs.Whole.{Within, away};
 ghost use Rattle.units.specs.Limits.{most_transfer, seconds_of_quarter, seconds_of_ramp};

@@ -9,7 +9,7 @@ use native.Mathlib.Omega.{arith}
 use lib.Dec.{eqb}
 use lib.ListN.{length, take, get_or}
 use borrow.Author.Tests.{eqb-true, eq-eqb, ne_eqb, leb-true, le-leb}
-use Rattle.whole.proofs.Choice.{clash, both, and_both, by-test, all_passed, passed_all}
+use Rattle.whole.proofs.Choice.{clash, both, and_both, by_test, all_passed, passed_all}
 use Rattle.whole.proofs.Folds.{all_at, all_of}
 use Rattle.units.specs.Refusals.{wrong_length, bad_reading}
 use Rattle.units.specs.Limits.{most_score, earlier_scores, seconds_of_hour}
@@ -204,7 +204,7 @@ module _ (earlier scores : List ℕ) where
   unfolding hourly_rate
   rate_refusal =
       let k = scores_refusal earlier scores in
-      by-test (eqb k 0) (λ (t : eqb k 0 ≡ true). rw t (sym (eqb-true k 0 t))) (λ (t : eqb k 0 ≡ false). rw t)
+      by_test (eqb k 0) (λ (t : eqb k 0 ≡ true). rw t (sym (eqb-true k 0 t))) (λ (t : eqb k 0 ≡ false). rw t)
 
   pub rate_is : (hourly_rate earlier scores).refusal ≡ 0 → (hourly_rate earlier scores).rate ≡ smallest (rolling earlier scores)
   rate_is e = ap (λ (r : Rated). r.rate) (rate_granted (scores_fit (sym rate_refusal ∙ e)))
@@ -213,7 +213,7 @@ module _ (earlier scores : List ℕ) where
   unfolding hourly_rate
   rate_within =
       let k = scores_refusal earlier scores in
-      by-test (eqb k 0)
+      by_test (eqb k 0)
       (λ (t : eqb k 0 ≡ true). rw (t, sym (rate_carried (scores_fit (eqb-true k 0 t)))) (smallest_le most_score (carried (last_of earlier) (second_of earlier) (third_of earlier) scores)))
       (λ (t : eqb k 0 ≡ false). rw t (omega arith))
 
@@ -225,8 +225,8 @@ module _ (earlier scores : List ℕ) where
   unfolding hourly_rate scores_refusal earlier_refusal
   before_refused n =
       let lengths = rate_lengths_fit (length earlier) (length scores) in
-      by-test lengths
-      (λ (t : lengths ≡ true). by-test (are_scores earlier) (λ (a : are_scores earlier ≡ true). absurd (n (rw (t, a)))) (λ (a : are_scores earlier ≡ false). rw (t, a)))
+      by_test lengths
+      (λ (t : lengths ≡ true). by_test (are_scores earlier) (λ (a : are_scores earlier ≡ true). absurd (n (rw (t, a)))) (λ (a : are_scores earlier ≡ false). rw (t, a)))
       (λ (t : lengths ≡ false). rw t)
 
   pub before_fine : earlier_refusal earlier (length scores) ≡ 0 → NoneOrThree earlier
@@ -239,7 +239,7 @@ module _ (earlier scores : List ℕ) where
   rate_after_is e =
       let p = all_passed before refl e in
       let l = and_both (eqb (length scores) seconds_of_hour) (earlier_fit (length earlier)) p.0 in
-      by-test (are_scores scores)
+      by_test (are_scores scores)
       (λ (t : are_scores scores ≡ true).
       rw (t, p.0, p.1.0, rate_carried (record { long = eqb-true (length scores) seconds_of_hour l.0; of_earlier = l.1; before = p.1.0; small = t })))
       (λ (t : are_scores scores ≡ false). rw (t, p.0, p.1.0))

@@ -1,4 +1,6 @@
 // An hour's rate by its scores, and by the last three of the hour before.
+#![tactic(auto)]
+
 ghost use Rattle.std.specs.Prelude.{◌≡◌, min, max, get_or};
 ghost use Rattle.rate.specs.Rolling.{earlier_fit, are_scores, hourly_rate, no_rate};
 ghost use Rattle.rate.specs.Inner.{rate_after, earlier_refusal};
@@ -6,7 +8,7 @@ ghost use Rattle.rate.specs.Inner.{rate_after, earlier_refusal};
 use units::{limits, refusals};
 
 // An hour's rate, or its refusal with 0.
-#[derive(Drop)]
+#[derive(Clone, Copy)]
 pub struct Rated {
     pub refusal: u8,
     pub rate: u8,

@@ -10,7 +10,7 @@ use lib.Dec.{ltb, leb}
 use lib.ListN.{length, get_or}
 use borrow.Author.Tests.{ltb-true, ltb-false}
 use Rattle.whole.specs.Choice.{pick}
-use Rattle.whole.proofs.Choice.{clash, by-test, and_both}
+use Rattle.whole.proofs.Choice.{clash, by_test, and_both}
 use Rattle.reached.specs.Reached.{stays_below, first_below, read_in}
 use Rattle.reached.specs.Accepted.{Below, Meets}
 
@@ -29,7 +29,7 @@ module _ (threshold : ℕ) where
   pub meets : (w : List ℕ) → stays_below threshold w ≡ false → Meets threshold w
   meets [] e = clash (sym e)
   meets (x ∷ w) e =
-      by-test (ltb x threshold)
+      by_test (ltb x threshold)
       (λ (t : ltb x threshold ≡ true).
       let r = meets w (rw t at e) in
       record { back = suc r.back; inside = omega (arith, r.inside); met = r.met })
@@ -54,7 +54,7 @@ module _ (threshold : ℕ) where
   pub first_window : (n : ℕ) (ws : List (List ℕ)) → FirstWindow n ws
   first_window n [] = none_below refl (λ j h. absurd (not-suc-le-zero h))
   first_window n (w ∷ ws) =
-      by-test (stays_below threshold w)
+      by_test (stays_below threshold w)
       (λ (t : stays_below threshold w ≡ true).
       first_below_lem 0 (rw t (omega arith)) (omega arith) (stays_below_lem w t) (λ j h. absurd (not-suc-le-zero h)))
       (λ (t : stays_below threshold w ≡ false). later t (meets w t) (first_window (n + 1) ws))

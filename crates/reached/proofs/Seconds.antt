@@ -9,7 +9,7 @@ use native.Mathlib.Omega.{arith}
 use lib.Dec.{eqb, leb, ltb}
 use lib.ListN.{length, get_or, get_or-map}
 use borrow.Author.Tests.{eq-eqb, ne_eqb, le-leb, lt-leb, ltb-true, ltb-false}
-use Rattle.whole.proofs.Choice.{by-test, kept_any}
+use Rattle.whole.proofs.Choice.{by_test, kept_any}
 use Rattle.whole.proofs.Folds.{add_between}
 use Rattle.units.specs.Limits.{seconds_of_hour}
 use Rattle.rate.specs.Rolling.{largest, smallest, rolling}
@@ -104,7 +104,7 @@ answer_within earlier scores threshold =
 -- the first window to stay below a threshold comes no later than any that stays below it, or below a lower one
 not_later : (earlier scores : List ℕ) {t u : ℕ} (i j : ℕ) → t ≤ u → Below t (window_at earlier scores i) → FirstBelow earlier scores u j → j ≤ i
 not_later earlier scores {t} {u} i j h b g =
-    by-test (ltb i j)
+    by_test (ltb i j)
     (λ (l : ltb i j ≡ true). not_both t u (window_at earlier scores i) h b (g.before i (ltb-true i j l)))
     (λ (l : ltb i j ≡ false). ltb-false i j l)
 

@@ -1,5 +1,7 @@
 // Did an hour reach a threshold? The first second whose whole window stays below it, and what is judged and read to
 // find it.
+#![tactic(auto)]
+
 ghost use Rattle.std.specs.Prelude.{◌≡◌, ◌++◌, ◌+◌, ◌-◌, ◌≤◌, ◌<◌, min, length, get_or};
 ghost use Rattle.units.specs.Limits.{seconds_of_hour};
 ghost use Rattle.reached.specs.Reached.{verdict_refusal, verdict_of, no_verdict, hour_reached};
@@ -8,7 +10,7 @@ use units::{limits, refusals};
 
 // Whether the hour reached the threshold; the first second whose window stays below it, 0 where there is none; how many
 // seconds were judged, and how many scores read. Or the refusal, with no and zeros.
-#[derive(Drop)]
+#[derive(Clone, Copy)]
 pub struct Verdict {
     pub refusal: u8,
     pub reached: bool,

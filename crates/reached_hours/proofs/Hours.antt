@@ -46,7 +46,7 @@ left_fit h run scores r five answer left none =
 sreg_left_fit : (h : SRegHour) (run scores : List ℕ) (r : Settled) → r ≡ sreg_answer h (length run) → scores ≡ sreg_left h run → r.hour.refusal ≡ 0 → ScoresFit h.earlier scores
 sreg_left_fit h run scores r answer left none =
     let zero = sym (ap (λ (x : Settled). x.hour.refusal) answer ∙ sreg_laws.refusal_is h (length run)) ∙ none in
-    subst (ScoresFit h.earlier) (sym (left ∙ sreg_laws.scores-granted h run zero)) (sreg_scores_fit h (length run) (sreg_laws.fit h (length run) zero))
+    subst (ScoresFit h.earlier) (sym (left ∙ sreg_laws.scores_granted h run zero)) (sreg_scores_fit h (length run) (sreg_laws.fit h (length run) zero))
 
 -- ---- a call of `reached`, on any threshold up to 100
 

@@ -12,8 +12,8 @@ use prog.Routine.{Routine}
 use Rattle.records.specs.contracts.check_bands as check_bands
 use Rattle.records.specs.contracts.factor_of as factor_of
 
--- A function that is walked by hand has no `Reads`. Its contract, as the toolchain reads it off the source, is the clause `ensures`, a
--- proposition of the logic that programs are proved in; there it is that two answers which meet it are equal.
+-- The contract here is the clause `ensures` as the toolchain reads it off the source, a proposition of the logic that programs are proved
+-- in (the older toolchain had no `Reads` of a function that takes a slice of structs); there it is that two answers which meet it are equal.
 module _ {M : Type 1} (𝓤 : Ura M) where
   abbrev WalkedDetermined : (T : Ended) → Clauses 𝓤 T → Type 1
   WalkedDetermined T c =

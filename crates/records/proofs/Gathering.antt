@@ -11,7 +11,7 @@ use lib.IntN.{ℤ}
 use lib.ListN.{length, set, take, length-set, length-map}
 use lib.Seq.{take-suc-set}
 use borrow.Author.Tests.{ltb-true, ltb-false, leb-true, leb-false, lt-ltb, le-ltb, le-leb, lt-leb}
-use Rattle.whole.proofs.Choice.{by-test}
+use Rattle.whole.proofs.Choice.{by_test}
 use Rattle.units.specs.Limits.{most_bands}
 use Rattle.records.specs.declared.Band.{Band}
 use Rattle.records.specs.declared.Columns.{Columns}
@@ -63,7 +63,7 @@ holds c (b ∷ bs) t f h =
 too_many_lem : (c : Columns) (bands : List Band) → c.count ≤ most_bands + 1 → most_bands < c.count + length bands → (gathered c bands).count ≡ most_bands + 1
 too_many_lem c [] m h = rw gathered_end (omega arith)
 too_many_lem c (b ∷ bs) m h =
-    by-test (ltb c.count most_bands)
+    by_test (ltb c.count most_bands)
     (λ (e : ltb c.count most_bands ≡ true).
     let l = ltb-true c.count most_bands e in
     rw (gathered_stored c b bs l) (too_many_lem (stored c b bs) bs (omega arith) (omega arith)))
@@ -97,7 +97,7 @@ module _ (bands : List Band) where
 
   pub answer_in_lem : Same
   answer_in_lem =
-      by-test (leb (length bands) most_bands) (λ (e : leb (length bands) most_bands ≡ true). same_few (leb-true (length bands) most_bands e))
+      by_test (leb (length bands) most_bands) (λ (e : leb (length bands) most_bands ≡ true). same_few (leb-true (length bands) most_bands e))
       (λ (e : leb (length bands) most_bands ≡ false). same_many (leb-false (length bands) most_bands e))
 
   -- the number alone, by the answer at rate 0

@@ -1,5 +1,4 @@
 -- What belongs to no one function.
 mod Gathering
-mod Lent
 mod Determined
 mod RefusedKeeps

@@ -1,4 +1,6 @@
 // The quality bands as a lent slice of records: gathered into two columns, which the rule on number slices takes.
+#![tactic(auto)]
+
 ghost use Rattle.std.specs.Prelude.{◌≡◌};
 ghost use Rattle.records.specs.Records.{records_refusal, records_answer};
 ghost use Rattle.records.specs.Inner.{none, next, gathered, refusal_in, gathered_answer};
@@ -10,7 +12,7 @@ use units::limits;
 const TOO_MANY: usize = limits::BANDS + 1;
 
 // A record of the list: from this rate on, this factor in tenths.
-#[derive(Drop)]
+#[derive(Clone, Copy)]
 pub struct Band {
     pub threshold: i64,
     pub factor: i64,

@@ -9,7 +9,7 @@ use lib.IntN.{ℤ}
 use lib.ListN.{length, take}
 use lib.Seq.{take_all}
 use borrow.Author.Tests.{leb-true, leb-false, le-leb}
-use Rattle.whole.proofs.Choice.{by-test, and_both}
+use Rattle.whole.proofs.Choice.{by_test, and_both}
 use Rattle.text.specs.Text.{put}
 use Rattle.asked.specs.Inner as asking
 use Rattle.asked.specs.Asking.{most_numbers}
@@ -24,7 +24,7 @@ use Rattle.replies.specs.declared.Replied.{Replied}
 -- no more than there are
 pub take_least : {A : Type 0} (n : ℕ) (run : List A) → take (min n (length run)) run ≡ take n run
 take_least n run =
-    by-test (leb n (length run))
+    by_test (leb n (length run))
     (λ (t : leb n (length run) ≡ true). let h = leb-true n (length run) t in let e : min n (length run) ≡ n = omega arith in rw e)
     (λ (t : leb n (length run) ≡ false). let h = leb-false n (length run) t in take_all (min n (length run)) run (omega arith) ∙ sym (take_all n run (omega arith)))
 
@@ -38,7 +38,7 @@ pub has_room : (numbers out : ℕ) → runs_fit_in numbers out ≡ true → room
 unfolding runs_fit_in
 has_room numbers out t = leb-true room out (and_both (eqb numbers most_numbers) (leb room out) t).1
 
-pub numbers_fit : (run : List ℤ) (out : ℕ) → runs_fit_in (length run) out ≡ true → asking.isRun run ≡ true
+pub numbers_fit : (run : List ℤ) (out : ℕ) → runs_fit_in (length run) out ≡ true → asking.is_run run ≡ true
 unfolding runs_fit_in
 numbers_fit run out t = (and_both (eqb (length run) most_numbers) (leb room out) t).0
 

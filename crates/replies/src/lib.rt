@@ -1,4 +1,6 @@
 // The program `desk` between its input and its output: bytes in, chunk after chunk; a question that ends is answered.
+#![tactic(auto)]
+
 ghost use Rattle.std.specs.Prelude.{◌≤◌, min, ◌≡◌, length};
 ghost use Rattle.text.specs.Text.{put};
 ghost use Rattle.question.specs.Inner.{room};
@@ -10,7 +12,7 @@ use units::refusals;
 
 // What a chunk or the input's end comes to: the next state, how many bytes were taken, and how many of an answer were
 // written.
-#[derive(Drop)]
+#[derive(Clone, Copy)]
 pub struct Replied {
     pub refusal: u8,
     pub state: State,

@@ -10,7 +10,7 @@ use lib.IntN.{ℤ, pos}
 use lib.ListN.{length, replicate, length-replicate}
 use borrow.Author.Tests.{eqb-true, eq-eqb, ne_eqb}
 use Rattle.whole.specs.Choice.{pick, in_order}
-use Rattle.whole.proofs.Choice.{clash, and_both, by-test}
+use Rattle.whole.proofs.Choice.{clash, and_both, by_test}
 use Rattle.units.specs.Limits.{is_pattern, earlier_scores, seconds_of_hour}
 use Rattle.units.specs.Refusals.{wrong_length, bad_bands}
 use Rattle.rate.specs.Rolling.{rate_lengths_fit, scores_refusal, no_rate, hourly_rate}
@@ -29,7 +29,7 @@ use Rattle.rules.specs.Rules.{pairs, are_pairs, factor_in, kilowatts_reply, curv
 pub too_many_lem : (thresholds factors : List ℤ) (rate : ℕ) → 16 < length thresholds → factor_answer thresholds factors rate ≡ record { refusal = 5; factor = pos 0 }
 unfolding factor_answer with_factor factor_refusal
 too_many_lem ts fs rate h =
-    by-test (bands_fit ts fs) (λ (t : bands_fit ts fs ≡ true). let b = bands_fit_lem ts fs t in absurd (omega arith)) (λ (t : bands_fit ts fs ≡ false). rw t)
+    by_test (bands_fit ts fs) (λ (t : bands_fit ts fs ≡ true). let b = bands_fit_lem ts fs t in absurd (omega arith)) (λ (t : bands_fit ts fs ≡ false). rw t)
 
 -- a lookup of the rate 0 is refused for the bands alone
 by_columns : (thresholds factors : List ℤ) → (factor_answer thresholds factors 0).refusal ≡ in_order ((bands_fit thresholds factors, bad_bands) ∷ [])
@@ -38,7 +38,7 @@ by_columns ts fs = refl
 
 pub by_bands : (n : List ℤ) → (factor_in n 0).refusal ≡ in_order ((are_pairs n, wrong_length) ∷ (bands_fit (column n 0 (pairs n)) (column n 1 (pairs n)), bad_bands) ∷ [])
 unfolding factor_in
-by_bands n = by-test (are_pairs n) (λ (t : are_pairs n ≡ true). rw t (by_columns _ _)) (λ (t : are_pairs n ≡ false). rw t)
+by_bands n = by_test (are_pairs n) (λ (t : are_pairs n ≡ true). rw t (by_columns _ _)) (λ (t : are_pairs n ≡ false). rw t)
 
 -- the scores of a question as bytes; over any number, so that no list is written out
 pub scores_filled : (tail : List ℤ) (m : ℕ) (scores : List ℕ) → length tail ≡ m → scores ≡ as_bytes tail (length {A = ℕ} (replicate m 0)) → scores ≡ scores_in tail
@@ -95,6 +95,6 @@ rule_few Quality n counted earlier t = omega arith
 rule_few Energy n counted earlier t = omega arith
 rule_few Loss n counted earlier t = omega arith
 rule_few Pair n counted earlier t =
-    by-test (is_pattern (number n 0) && is_pattern (number n 1))
+    by_test (is_pattern (number n 0) && is_pattern (number n 1))
     (λ (e : is_pattern (number n 0) && is_pattern (number n 1) ≡ true). rw e (omega arith))
     (λ (e : is_pattern (number n 0) && is_pattern (number n 1) ≡ false). rw e (omega arith))

@@ -1,5 +1,7 @@
 // The questions about one rule, each answered by a refusal and a few fields: the answer of the library that has the
 // rule.
+#![tactic(auto)]
+
 ghost use Rattle.std.specs.Prelude.{◌≤◌, ◌≡◌, true, length};
 ghost use Rattle.units.specs.Limits.{seconds_of_hour};
 ghost use Rattle.bands.specs.Bands.{factor_answer};

@@ -7,7 +7,7 @@ use native.Mathlib.Nat.{zero-add}
 use lib.IntN.{ℤ}
 use lib.ListN.{length}
 use contract.Lifetimes.{Lfts}
-use denote.Ref.{Bor}
+use denote.Ref.{Bor, MutBor}
 use denote.Triple.Clauses.{AtExit}
 use borrow.Fn.Kinds.{ended_of}
 use Rattle.whole.proofs.Choice.{kept_new}
@@ -31,7 +31,7 @@ pub second_score_accepted : (κs : Lfts 0) (power transfer capacity : Kilowatts)
     → second_score_lem.Post κs (power, (transfer, (capacity, (frequency, (reference, tt))))) x s → SecondFits power transfer capacity frequency reference
     → x ≡ record { refusal = 0; score = plain_score power.0 transfer.0 capacity.0 frequency.0 reference.0 }
 unfolding judged_by
-second_score_accepted κs power transfer capacity frequency reference x s p f = p ∙ second.second-granted _ _ _ _ _ (second.fit-second _ _ _ _ _ f)
+second_score_accepted κs power transfer capacity frequency reference x s p f = p ∙ second.second_granted _ _ _ _ _ (second.fit_second _ _ _ _ _ f)
 
 -- ---- a run of seconds
 
@@ -44,10 +44,10 @@ module _ (powers frequencies transfers : List ℤ) (capacity : Kilowatts) (refer
       record {
         seconds = length_listed at 0 n;
         second = λ i h. get_d_listed at 0 n i 0 h ∙ ap at (zero-add i)
-            ∙ ap (λ (r : Scored). r.score) (second.second-granted _ _ _ _ _ (run_second powers frequencies transfers capacity reference places f i h));
+            ∙ ap (λ (r : Scored). r.score) (second.second_granted _ _ _ _ _ (run_second powers frequencies transfers capacity reference places f i h));
       }
 
-pub run_scores_accepted : (κs : Lfts 4) (powers frequencies transfers : Bor (List ℤ)) (capacity : Kilowatts) (reference : Millihertz) (scores : Bor (List ℕ)) (x : ℕ)
+pub run_scores_accepted : (κs : Lfts 4) (powers frequencies transfers : Bor (List ℤ)) (capacity : Kilowatts) (reference : Millihertz) (scores : MutBor (List ℕ)) (x : ℕ)
     (s : AtExit (ended_of 4 run_scores_kinds.ps run_scores_kinds.r) κs)
     → run_scores_lem.Post κs (powers, (frequencies, (transfers, (capacity, (reference, (scores, tt)))))) x s
     → RunFits powers.now frequencies.now transfers.now capacity reference (length scores.now)

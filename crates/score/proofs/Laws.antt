@@ -9,7 +9,7 @@ use lib.IntN.{ℤ, ◌-ℤ◌}
 use lib.Signed.{le_z}
 use borrow.Author.Tests.{eqb-true, eq-eqb}
 use Rattle.whole.specs.Whole.{up, down, in_range, apart}
-use Rattle.whole.proofs.Choice.{by-test, and_both, all_passed}
+use Rattle.whole.proofs.Choice.{by_test, and_both, all_passed}
 use Rattle.whole.proofs.Signed.{signed, size, difference}
 use Rattle.units.specs.Limits.{is_power, is_frequency, most_score}
 use Rattle.units.specs.declared.Kilowatts.{Kilowatts}
@@ -22,7 +22,7 @@ use Rattle.score.specs.declared.Scored.{Scored}
 pub score_most : (output upper lower : ℤ) → score_of output upper lower ≤ most_score
 unfolding score_of
 score_most output upper lower =
-    by-test (in_range lower upper output)
+    by_test (in_range lower upper output)
     (λ (e : in_range lower upper output ≡ true). rw e (omega arith))
     (λ (e : in_range lower upper output ≡ false). rw e (omega arith))
 
@@ -45,9 +45,9 @@ apart_short x y e = omega (signed, size (x -ℤ y), difference x y)
 pub score_outside : (output upper lower : ℤ) → le_z lower upper ≡ true → score_of output upper lower ≡ most_score - max (past output upper) (past lower output)
 unfolding score_of in_range
 score_outside output upper lower order =
-    by-test (le_z lower output)
+    by_test (le_z lower output)
     (λ (e : le_z lower output ≡ true).
-    by-test (le_z output upper)
+    by_test (le_z output upper)
     (λ (g : le_z output upper ≡ true). rw (e, g, not_past lower output e, not_past output upper g))
     (λ (g : le_z output upper ≡ false).
     let f : le_z output lower ≡ false = omega signed in
@@ -81,7 +81,7 @@ module _ (power transfer capacity : Kilowatts) (frequency reference : Millihertz
   unfolding second_score
   second_refusal_lem =
       let k = second_refusal power transfer capacity frequency reference in
-      by-test (eqb k 0)
+      by_test (eqb k 0)
       (λ (t : eqb k 0 ≡ true). rw t (sym (eqb-true k 0 t)))
       (λ (t : eqb k 0 ≡ false). rw t)
 
@@ -95,6 +95,6 @@ module _ (power transfer capacity : Kilowatts) (frequency reference : Millihertz
   unfolding second_score judged_by
   score_within =
       let k = second_refusal power transfer capacity frequency reference in
-      by-test (eqb k 0)
+      by_test (eqb k 0)
       (λ (t : eqb k 0 ≡ true). rw t (score_most (percent_output power.0 transfer.0 capacity.0) (upper_by reference.0 frequency.0) (lower_by reference.0 frequency.0)))
       (λ (t : eqb k 0 ≡ false). rw t (omega arith))

@@ -10,11 +10,11 @@ use lib.Dec.{eqb}
 use lib.IntN.{ℤ, pos, ◌+ℤ◌}
 use lib.ListN.{length, get_or, length-map}
 use contract.Lifetimes.{Lfts}
-use denote.Ref.{Bor}
+use denote.Ref.{Bor, MutBor}
 use denote.Triple.Clauses.{AtExit}
 use borrow.Fn.Kinds.{ended_of}
 use borrow.Author.Tests.{eqb-true}
-use Rattle.whole.proofs.Choice.{by-test}
+use Rattle.whole.proofs.Choice.{by_test}
 use Rattle.whole.proofs.Runs.{listed_same}
 use Rattle.whole.proofs.Sums.{all_inside}
 use Rattle.units.specs.Limits.{least_frequency, most_frequency}
@@ -59,7 +59,7 @@ pub second_score_unmoved : (κs : Lfts 0) (power transfer capacity : Kilowatts) 
     → second_score_lem.Post κs (power, (transfer, (capacity, (frequency, (unmoved, tt))))) x s → x ≡ second_unmoved power transfer capacity frequency
 second_score_unmoved κs power transfer capacity frequency x s p = p ∙ unmoved_second power transfer capacity frequency
 
-pub run_scores_unmoved : (κs : Lfts 4) (powers frequencies transfers : Bor (List ℤ)) (capacity : Kilowatts) (scores : Bor (List ℕ)) (x : ℕ)
+pub run_scores_unmoved : (κs : Lfts 4) (powers frequencies transfers : Bor (List ℤ)) (capacity : Kilowatts) (scores : MutBor (List ℕ)) (x : ℕ)
     (s : AtExit (ended_of 4 run_scores_kinds.ps run_scores_kinds.r) κs)
     → run_scores_lem.Post κs (powers, (frequencies, (transfers, (capacity, (unmoved, (scores, tt)))))) x s
     → (x ≡ run_unmoved_refusal powers.now frequencies.now transfers.now capacity (length scores.now))
@@ -122,7 +122,7 @@ module _ (d : ℤ) (powers frequencies transfers : List ℤ) (capacity : Kilowat
   together_left run =
       let k = run_refusal powers frequencies transfers capacity reference (length run) in
       rw (together_refusal (length run))
-      (by-test (eqb k 0)
+      (by_test (eqb k 0)
       (λ (t : eqb k 0 ≡ true). rw t (together_run (run_fit powers frequencies transfers capacity reference (length run) (eqb-true k 0 t)).as_frequencies))
       (λ (t : eqb k 0 ≡ false). rw t))
 

@@ -1,4 +1,6 @@
 // A second's score by its percent output, and the scores of a run of seconds.
+#![tactic(auto)]
+
 ghost use Rattle.std.specs.Prelude.{◌≡◌, true, ◌+◌, ◌*◌, ◌-◌, ◌≤◌, pos, nat_abs, ◌*ℤ◌, length};
 ghost use Rattle.std.specs.Int.Signed.{lt_z, le_z};
 ghost use Rattle.whole.specs.Choice.{pick};
@@ -26,7 +28,7 @@ const BY_INVERSE: i64 = 32;
 const SCALE: u64 = 17_592_186_044_416;
 
 // A second's score, or its refusal with 0.
-#[derive(Drop)]
+#[derive(Clone, Copy)]
 pub struct Scored {
     pub refusal: u8,
     pub score: u8,
@@ -58,6 +60,7 @@ pub fn second_score(
 
 // The scores of a run of seconds, each by its power, its planned transfer and the frequency of the second before, all
 // at one place, and by one reference. A refused run stays as it was.
+#[tactic(auto, unfolding(crate::specs::Run::run_left))]
 pub fn run_scores(
     powers: &[i64],
     frequencies: &[i64],

@@ -1,4 +1,6 @@
 // The questions that print a run: a quarter's powers, an hour's scores.
+#![tactic(auto)]
+
 ghost use Rattle.std.specs.Prelude.{◌≡◌, map, pos, length};
 ghost use Rattle.units.specs.Limits.{seconds_of_hour};
 ghost use Rattle.hours.specs.Hours.{hour_numbers, scores_reply};
@@ -9,7 +11,7 @@ use units::{Kilowatts, limits};
 use words::{Hour, Series};
 
 // How many fields an answer has; or the number of a refusal, and none.
-#[derive(Drop)]
+#[derive(Clone, Copy)]
 pub struct Ran {
     pub refusal: u8,
     pub count: usize,

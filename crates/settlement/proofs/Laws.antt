@@ -13,7 +13,7 @@ use mir.Val.{SFits}
 use borrow.Author.Tests.{le-leb}
 use Rattle.whole.specs.Choice.{unless, or_else, in_order}
 use Rattle.whole.specs.Whole.{Within}
-use Rattle.whole.proofs.Choice.{both, and_both, by-test, all_passed, passed_all, in_order_then, kept_new}
+use Rattle.whole.proofs.Choice.{both, and_both, by_test, all_passed, passed_all, in_order_then, kept_new}
 use Rattle.whole.proofs.Signed.{sum, within_fits}
 use Rattle.whole.proofs.Sums.{in_within}
 use Rattle.units.specs.Limits.{is_capacity, is_price, is_factor, most_energy_paid, is_energy_paid, most_score}
@@ -31,7 +31,7 @@ use Rattle.settlement.specs.declared.Terms.{Terms}
 -- the bands' call refuses just what does not fit
 pub bands_test : (thresholds factors : List ℤ) → eqb (bands_refusal thresholds factors) 0 ≡ bands_fit thresholds factors
 unfolding bands_refusal
-bands_test ts fs = by-test (bands_fit ts fs) (λ (t : bands_fit ts fs ≡ true). rw t) (λ (t : bands_fit ts fs ≡ false). rw t)
+bands_test ts fs = by_test (bands_fit ts fs) (λ (t : bands_fit ts fs ≡ true). rw t) (λ (t : bands_fit ts fs ≡ false). rw t)
 
 -- ---- the tests
 

@@ -1,5 +1,7 @@
 // What an hour comes to, whatever it was awarded for: the refusals of its terms, its fees, its quality part and its
 // amount.
+#![tactic(auto)]
+
 ghost use Rattle.std.specs.Prelude.{◌≡◌, true, ◌&&◌, ◌+ℤ◌};
 ghost use Rattle.std.specs.Int.{w64};
 ghost use Rattle.std.proofs.Common.{SFits};
@@ -16,7 +18,7 @@ use units::{Dollars, Kilowatts, limits, refusals};
 const LEAST_ENERGY_PAID: i64 = -limits::ENERGY_PAID;
 
 // What an hour is settled by, besides its readings and the bands. Prices are hundredths of a dollar.
-#[derive(Drop)]
+#[derive(Clone, Copy)]
 pub struct Terms {
     pub capacity: Kilowatts,
     pub clearing: i64,
@@ -24,7 +26,7 @@ pub struct Terms {
 }
 
 // What an hour earned, or its refusal with zeros. The factor is in tenths.
-#[derive(Drop)]
+#[derive(Clone, Copy)]
 pub struct Settlement {
     pub refusal: u8,
     pub rate: u8,

@@ -14,7 +14,7 @@ use borrow.Author.Tests.{eqb-true, eq-eqb, ne_eqb}
 use Rattle.whole.specs.Choice.{unless}
 use Rattle.whole.specs.Runs.{listed}
 use Rattle.whole.specs.Whole.{all_in_range}
-use Rattle.whole.proofs.Choice.{by-test, and_both, all_passed, kept_new, kept_old}
+use Rattle.whole.proofs.Choice.{by_test, and_both, all_passed, kept_new, kept_old}
 use Rattle.whole.proofs.Folds.{all_and}
 use Rattle.whole.proofs.Runs.{length_listed, get_d_listed}
 use Rattle.units.specs.Limits.{is_capacity, is_power, is_frequency, are_powers, are_frequencies, seconds_of_hour}
@@ -88,11 +88,11 @@ module _ (powers frequencies : List ℤ) (capacity : Kilowatts) (state : EventSt
   pub before_first : (before ≡ 0 → ⊥) → refusal ≡ before
   unfolding sreg_scores_refusal before_readings
   before_first f =
-      by-test (lengths (length powers) (length frequencies) places)
+      by_test (lengths (length powers) (length frequencies) places)
       (λ (l : lengths (length powers) (length frequencies) places ≡ true).
-      by-test (is_capacity capacity.0)
+      by_test (is_capacity capacity.0)
       (λ (c : is_capacity capacity.0 ≡ true).
-      by-test (is_state state)
+      by_test (is_state state)
       (λ (s : is_state state ≡ true). absurd (f (rw (l, c, s))))
       (λ (s : is_state state ≡ false). rw (l, c, s)))
       (λ (c : is_capacity capacity.0 ≡ false). rw (l, c)))
@@ -108,7 +108,7 @@ module _ (powers frequencies : List ℤ) (capacity : Kilowatts) (state : EventSt
 pub judged_fit : (state : EventState) (powers frequencies : List ℤ) → (judged_of state powers frequencies).fit ≡ all_read powers frequencies
 unfolding judged_of
 judged_fit state powers frequencies =
-    by-test (all_read powers frequencies)
+    by_test (all_read powers frequencies)
     (λ (t : all_read powers frequencies ≡ true). rw t)
     (λ (t : all_read powers frequencies ≡ false). rw t)
 

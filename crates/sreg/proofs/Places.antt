@@ -4,7 +4,7 @@ use mathlib.Core.Bool.{true, false}
 use lib.Dec.{eqb}
 use lib.IntN.{ℤ}
 use borrow.Author.Tests.{ne_eqb}
-use Rattle.whole.proofs.Choice.{by-test}
+use Rattle.whole.proofs.Choice.{by_test}
 use Rattle.sreg.specs.Second.{score_in}
 use Rattle.sreg.specs.Inner.{state_of}
 use Rattle.sreg.specs.declared.EventState.TheVariants.{Outside, Responding, Holding, Recovering}
@@ -27,4 +27,4 @@ module _ (place : Place) where
   pub full_score : (power frequency capacity : ℤ) → (place.kind ≡ 0 → ⊥) → (place.kind ≡ 2 → ⊥) → score_in (state_of place) power frequency capacity ≡ 100
   full_score power frequency capacity a c =
       rw (ne_eqb place.kind 0 a, ne_eqb place.kind 2 c)
-      (by-test (eqb place.kind 1) (λ (t : eqb place.kind 1 ≡ true). rw t) (λ (t : eqb place.kind 1 ≡ false). rw t))
+      (by_test (eqb place.kind 1) (λ (t : eqb place.kind 1 ≡ true). rw t) (λ (t : eqb place.kind 1 ≡ false). rw t))

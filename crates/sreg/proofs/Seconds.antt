@@ -9,7 +9,7 @@ use native.Mathlib.Numerals.{add-one}
 use native.Mathlib.Omega.{arith}
 use lib.IntN.{ℤ, pos}
 use lib.ListN.{length, get_or, take}
-use Rattle.whole.proofs.Choice.{by-test}
+use Rattle.whole.proofs.Choice.{by_test}
 use Rattle.sreg.specs.Second.{next_state, percent_of, score_in, starts}
 use Rattle.sreg.specs.Run.{scores_from, state_after}
 use Rattle.sreg.specs.declared.EventState.{EventState}
@@ -72,7 +72,7 @@ state_step state ps fs i e h = rw add-one (go state ps fs i e h)
 pub score_most : (state : EventState) (p f capacity : ℤ) → score_in state p f capacity ≤ 100
 unfolding percent_of
 score_most Outside p f capacity =
-    by-test (starts f) (λ (t : starts f ≡ true). rw t (omega arith)) (λ (t : starts f ≡ false). rw t (omega arith))
+    by_test (starts f) (λ (t : starts f ≡ true). rw t (omega arith)) (λ (t : starts f ≡ false). rw t (omega arith))
 score_most (Responding start scored) p f capacity = omega arith
 score_most (Holding start) p f capacity = omega arith
 score_most (Recovering left) p f capacity = omega arith

@@ -6,7 +6,7 @@ use native.Mathlib.Omega.{arith}
 use lib.Dec.{eqb, leb}
 use lib.IntN.{ℤ}
 use borrow.Author.Tests.{leb-true, le-leb, eqb-false}
-use Rattle.whole.proofs.Choice.{both, and_both, by-test}
+use Rattle.whole.proofs.Choice.{both, and_both, by_test}
 use Rattle.units.specs.declared.Kilowatts.{Kilowatts}
 use Rattle.units.specs.Limits.{is_power}
 use Rattle.sreg.specs.Second.{ends, is_state, next_state, starts, unless_ends, unless_starts, one_scored}
@@ -38,20 +38,20 @@ recovering {left} l m = both (le-leb 1 left l) (le-leb left 10 m)
 starts_is : (power frequency : ℤ) (state : EventState) → is_power power ≡ true → is_state state ≡ true → is_state (unless_starts power frequency state) ≡ true
 unfolding unless_starts
 starts_is power frequency state p e =
-    by-test (starts frequency)
+    by_test (starts frequency)
     (λ (t : starts frequency ≡ true). rw t (both p refl))
     (λ (t : starts frequency ≡ false). rw t e)
 
 ends_is : (frequency : ℤ) (state : EventState) → is_state state ≡ true → is_state (unless_ends frequency state) ≡ true
 unfolding unless_ends
 ends_is frequency state e =
-    by-test (ends frequency)
+    by_test (ends frequency)
     (λ (t : ends frequency ≡ true). rw t)
     (λ (t : ends frequency ≡ false). rw t e)
 
 scored_is : (start : Kilowatts) (scored : ℕ) → is_power start.0 ≡ true → 1 ≤ scored → scored ≤ 9 → is_state (one_scored start scored) ≡ true
 scored_is start scored p least most =
-    by-test (eqb scored 9)
+    by_test (eqb scored 9)
     (λ (t : eqb scored 9 ≡ true). rw t p)
     (λ (t : eqb scored 9 ≡ false). rw t (responding {start = start} {scored = scored + 1} (record { power = p; least = omega arith; most = omega (arith, eqb-false scored 9 t) })))
 
@@ -63,6 +63,6 @@ next_is power frequency (Holding start) e p = ends_is _ (Holding start) e
 next_is power frequency (Recovering left) e p =
     let r = recovers left e in
     starts_is _ _ _ p
-    (by-test (eqb left 1)
+    (by_test (eqb left 1)
     (λ (t : eqb left 1 ≡ true). rw t)
     (λ (t : eqb left 1 ≡ false). rw t (recovering {left = left - 1} (omega (arith, eqb-false left 1 t)) (omega arith))))

@@ -1,5 +1,7 @@
 // Static regulation (sReg): the scores of an hour's seconds by their powers and frequencies, and the state that they
 // end in.
+#![tactic(auto)]
+
 ghost use Rattle.std.specs.Prelude.{◌≡◌, true, ◌&&◌, ◌≤◌, ◌*◌, pos, length};
 ghost use Rattle.whole.specs.Whole.{Within, Between};
 ghost use Rattle.units.specs.Limits.{is_capacity, is_power, is_frequency, most_capacity, most_power};
@@ -21,7 +23,7 @@ const END: i64 = 59_980;
 
 // Where an hour ends: outside an event; in an event's first ten seconds, with the start second's power and how many of
 // the ten are scored, 1 to 9; in it from then on; in the ten seconds after it, with how many are left, 1 to 10.
-#[derive(Drop)]
+#[derive(Clone, Copy)]
 pub enum EventState {
     Outside,
     Responding { start: Kilowatts, scored: u8 },
@@ -30,7 +32,7 @@ pub enum EventState {
 }
 
 // The state that an hour ends in, or its refusal with `Outside`.
-#[derive(Drop)]
+#[derive(Clone, Copy)]
 pub struct Ended {
     pub refusal: u8,
     pub state: EventState,
@@ -197,7 +199,7 @@ fn copy(from: &[u8], to: &mut [u8])
 
 // A state as three numbers of 64 bits, which a loop carries faster than the enum: 0 outside; 1 responding, with the
 // start power and the seconds scored; 2 holding, with the start power; 3 recovering, with the seconds left.
-#[derive(Drop)]
+#[derive(Clone, Copy)]
 struct Place {
     kind: u64,
     power: i64,

@@ -11,7 +11,7 @@ use lib.ListN.{length}
 use borrow.Author.Tests.{eq-eqb, eqb-true}
 use Rattle.whole.specs.Choice.{unless, or_else, in_order, kept}
 use Rattle.whole.specs.Whole.{Within}
-use Rattle.whole.proofs.Choice.{both, and_both, by-test, all_passed, passed_all, in_order_then, or_first, kept_new, kept_old, kept_any}
+use Rattle.whole.proofs.Choice.{both, and_both, by_test, all_passed, passed_all, in_order_then, or_first, kept_new, kept_old, kept_any}
 use Rattle.units.specs.Limits.{is_price, most_score, seconds_of_hour}
 use Rattle.units.specs.Refusals.{bad_reading}
 use Rattle.units.specs.Units.{dollars}
@@ -85,7 +85,7 @@ module _ (h : SRegHour) (places : ℕ) where
   unfolding sreg_worked_refusal
   worked_number none =
       rw (tests_last, none, scores_refusal_lem (terms_let none))
-      (by-test (are_scores h.earlier) (λ (t : are_scores h.earlier ≡ true). rw t) (λ (t : are_scores h.earlier ≡ false). rw t))
+      (by_test (are_scores h.earlier) (λ (t : are_scores h.earlier ≡ true). rw t) (λ (t : are_scores h.earlier ≡ false). rw t))
 
   -- and settling by the rate refuses nothing
   pub rate_settles : terms ≡ 0 → sreg_worked_refusal h places ≡ 0 → (rate : ℕ) → rate ≤ most_score
@@ -106,7 +106,7 @@ module _ (h : SRegHour) (places : ℕ) where
   unfolding sreg_answer settled_of granted_hour refused_hour
   refusal_is =
       let k = sreg_refusal h places in
-      by-test (eqb k 0) (λ (t : eqb k 0 ≡ true). rw t (sym (eqb-true k 0 t))) (λ (t : eqb k 0 ≡ false). rw t)
+      by_test (eqb k 0) (λ (t : eqb k 0 ≡ true). rw t (sym (eqb-true k 0 t))) (λ (t : eqb k 0 ≡ false). rw t)
 
   pub granted : sreg_refusal h places ≡ 0 → sreg_answer h places ≡ granted_sreg h
   unfolding sreg_answer

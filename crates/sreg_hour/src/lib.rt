@@ -1,4 +1,6 @@
 // The sReg hour: its refusals in order, its scores, its rate and its fees, and the state that it ends in.
+#![tactic(auto)]
+
 ghost use Rattle.std.specs.Prelude.{◌≡◌, true, length};
 ghost use Rattle.hour.specs.Hour.{terms_refusal};
 ghost use Rattle.sreg_hour.specs.Hour.{sreg_hour, refused_sreg, sreg_answer, sreg_left};
@@ -9,7 +11,7 @@ use sreg::EventState;
 use units::refusals;
 
 // What an hour earned and the state that it ends in; or its refusal with zeros, and `Outside`.
-#[derive(Drop)]
+#[derive(Clone, Copy)]
 pub struct Settled {
     pub hour: Settlement,
     pub state: EventState,

@@ -10,7 +10,7 @@ use lib.Dec.{leb}
 use lib.ListN.{length, get_or, take, drop, set, replicate, length-append, length-drop, take-append-drop}
 use lib.Seq.{take_at, drop-append-add, drop-drop, set_split, length-take-le}
 use borrow.Author.Tests.{le-leb, lt-leb, leb-true, leb-false}
-use Rattle.whole.proofs.Choice.{by-test}
+use Rattle.whole.proofs.Choice.{by_test}
 use Rattle.whole.proofs.Runs.{rest, no_rest}
 use Rattle.text.specs.Text.{put, fits, place_after, with_text}
 
@@ -85,7 +85,7 @@ put_done out at text i h = ap (put out (at + i)) (no_rest text i h) ∙ put_noth
 -- the test without a sum that could pass 64 bits
 pub fits_from : (room at long : ℕ) → at ≤ room → leb long (room - at) ≡ fits room at long
 fits_from room at long h =
-    by-test (leb long (room - at))
+    by_test (leb long (room - at))
     (λ (t : leb long (room - at) ≡ true). let g = leb-true long (room - at) t in t ∙ sym (le-leb (at + long) room (omega arith)))
     (λ (t : leb long (room - at) ≡ false). let g = leb-false long (room - at) t in t ∙ sym (lt-leb (at + long) room (omega arith)))
 
@@ -110,7 +110,7 @@ module _ (out : List ℕ) (at : ℕ) (text : List ℕ) (h : length out < at + le
 -- the length of the run is what it was
 pub length_with : (out : List ℕ) (at : ℕ) (text : List ℕ) → length (with_text out at text) ≡ length out
 length_with out at text =
-    by-test (leb (at + length text) (length out))
+    by_test (leb (at + length text) (length out))
     (λ (t : leb (at + length text) (length out) ≡ true). let h = leb-true (at + length text) (length out) t in ap length (text_fits out at text h) ∙ length_put out at text h)
     (λ (t : leb (at + length text) (length out) ≡ false). let h = leb-false (at + length text) (length out) t in ap length (text_same out at text h))
 

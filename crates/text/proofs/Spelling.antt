@@ -14,7 +14,7 @@ use mir.Syntax.{w64}
 use mir.Val.{SFits}
 use Rattle.whole.specs.Whole.{up, down}
 use Rattle.whole.proofs.Signed.{size_fits}
-use Rattle.whole.proofs.Choice.{by-test}
+use Rattle.whole.proofs.Choice.{by_test}
 use Rattle.io.specs.Digits.{hex_digit_ascii, last_digits, IsDigitCount}
 use Rattle.text.specs.Text.{spelled, decimal_of, signed_text}
 
@@ -66,7 +66,7 @@ decimal_is n (suc k) h w = spelled_digits 19 k n (omega arith) w
 -- how many digits a number has
 length_spelled : (f k n : ℕ) → n < 10 ^ suc k → length (spelled f n) ≤ suc k
 length_spelled zero k n h = omega arith
-length_spelled (suc f) k n h = by-test (ltb n 10) (λ (t : ltb n 10 ≡ true). rw t (omega arith)) (λ (t : ltb n 10 ≡ false). rw t (longer k h (ltb-false n 10 t) (λ j. length_spelled f j (n / 10))))
+length_spelled (suc f) k n h = by_test (ltb n 10) (λ (t : ltb n 10 ≡ true). rw t (omega arith)) (λ (t : ltb n 10 ≡ false). rw t (longer k h (ltb-false n 10 t) (λ j. length_spelled f j (n / 10))))
   where
     longer : (k : ℕ) → n < 10 ^ suc k → 10 ≤ n → ((j : ℕ) → n / 10 < 10 ^ suc j → length (spelled f (n / 10)) ≤ suc j) → length (spelled f (n / 10) ++ ((48 + n % 10) ∷ [])) ≤ suc k
     longer zero h g m = let s : n < 10 = h in absurd (omega arith)
@@ -76,7 +76,7 @@ length_spelled (suc f) k n h = by-test (ltb n 10) (λ (t : ltb n 10 ≡ true). r
 pub length_most : (f n : ℕ) → length (spelled f n) ≤ f
 length_most zero n = omega arith
 length_most (suc f) n =
-    by-test (ltb n 10) (λ (t : ltb n 10 ≡ true). rw t (omega arith)) (λ (t : ltb n 10 ≡ false). rw t (simp length-append (omega (arith, length_most f (n / 10)))))
+    by_test (ltb n 10) (λ (t : ltb n 10 ≡ true). rw t (omega arith)) (λ (t : ltb n 10 ≡ false). rw t (simp length-append (omega (arith, length_most f (n / 10)))))
 
 pub length_decimal : (k n : ℕ) → n < 10 ^ suc k → length (decimal_of n) ≤ suc k
 unfolding decimal_of
@@ -99,6 +99,6 @@ length_size {z} f = length_decimal 19 (nat_abs z) (let g = size_fits f in omega 
 pub length_signed : (z : ℤ) → SFits w64 z → length (signed_text z) ≤ 21
 length_signed z f =
     let few = length_size f in
-    by-test (ltb (up z) (down z))
+    by_test (ltb (up z) (down z))
     (λ (t : ltb (up z) (down z) ≡ true). let h = ltb-true (up z) (down z) t in rw (signed_below z (omega arith)) (omega arith))
     (λ (t : ltb (up z) (down z) ≡ false). let h = ltb-false (up z) (down z) t in rw (signed_above z (omega arith)) (omega arith))

@@ -1,5 +1,7 @@
 // Text put into a lent run of bytes.  Each public function puts its text at a place and answers the place after it.
 // Where the text does not fit from there on, the run stays as it was and the answer is the same place.
+#![tactic(auto)]
+
 ghost use Rattle.std.specs.Prelude.{◌+◌, ◌≤◌, ◌≡◌, length};
 ghost use Rattle.text.specs.Text.{decimal_of, signed_text, put, fits, place_after, with_text};
 

@@ -5,7 +5,7 @@ use mathlib.Core.Path.{◌≡◌, refl, sym, ◌∙◌}
 use mathlib.Core.Bool.{Bool, true, false, ◌&&◌, ◌||◌}
 use lib.Dec.{eqb, leb}
 use borrow.Author.Tests.{leb-true, eqb-true}
-use Rattle.whole.proofs.Choice.{clash, by-test, and_both}
+use Rattle.whole.proofs.Choice.{clash, by_test, and_both}
 use Rattle.words.specs.Words.{letter_of}
 use Rattle.tokens.specs.Bytes.{is_letter, is_digit, digit_of}
 
@@ -20,8 +20,8 @@ either false b h e = clash (sym e ∙ h)
 pub letter_small : (b : ℕ) → is_letter b ≡ true → letter_of b ≤ 27
 unfolding is_letter letter_of
 letter_small b h =
-    by-test (leb 97 b)
-    (λ (t : leb 97 b ≡ true). rw t (by-test (eqb b 95)
+    by_test (leb 97 b)
+    (λ (t : leb 97 b ≡ true). rw t (by_test (eqb b 95)
     (λ (u : eqb b 95 ≡ true). omega (arith, eqb-true b 95 u))
     (λ (u : eqb b 95 ≡ false). omega (arith, leb-true b 122 (and_both (leb 97 b) (leb b 122) (either (leb 97 b && leb b 122) (eqb b 95) h u)).1))))
     (λ (t : leb 97 b ≡ false). rw t (omega arith))
@@ -29,6 +29,6 @@ letter_small b h =
 pub letter_some : (b : ℕ) → is_letter b ≡ true → 1 ≤ letter_of b
 unfolding letter_of
 letter_some b h =
-    by-test (leb 97 b)
+    by_test (leb 97 b)
     (λ (t : leb 97 b ≡ true). rw t (omega (arith, leb-true 97 b t)))
     (λ (t : leb 97 b ≡ false). rw t (omega arith))

@@ -1,4 +1,6 @@
 // Tokens: the bytes between separators, one by one, and what a token is once it has ended: a word's code, or a number.
+#![tactic(auto)]
+
 ghost use Rattle.std.specs.Prelude.{◌≡◌, true, ◌≤◌};
 ghost use Rattle.whole.specs.Whole.{minus};
 ghost use Rattle.tokens.specs.Bytes.{is_digit};
@@ -10,7 +12,7 @@ use words::faults;
 mod bytes;
 
 // The bytes since the last separator.
-#[derive(Drop)]
+#[derive(Clone, Copy)]
 pub enum Token {
     Between,
     Comment,
@@ -27,7 +29,7 @@ pub enum Token {
 }
 
 // What a byte does: the token after it, whether the one before it has ended, and whether it begins a word.
-#[derive(Drop)]
+#[derive(Clone, Copy)]
 pub struct Next {
     pub token: Token,
     pub ended: bool,
@@ -35,7 +37,7 @@ pub struct Next {
 }
 
 // A token as a number: 102 or 105 where it is none, and then 0.
-#[derive(Drop)]
+#[derive(Clone, Copy)]
 pub struct Numeral {
     pub fault: u8,
     pub value: i64,
@@ -202,6 +204,7 @@ fn lowered(size: u64, b: u8) -> Token
 }
 
 // A size without a sign.
+#[tactic(auto, unfolding(crate::specs::Tokens::size_number))]
 fn above(size: u64) -> Numeral
     ensures { result ≡ size_number size }
 {
@@ -218,6 +221,7 @@ fn above(size: u64) -> Numeral
 }
 
 // A size with the sign.
+#[tactic(auto, unfolding(crate::specs::Tokens::below_number))]
 fn below(size: u64) -> Numeral
     ensures { result ≡ below_number size }
 {

@@ -12,7 +12,7 @@ use lib.IntN.{ℤ, pos, negsuc}
 use mir.Syntax.{w64}
 use mir.Val.{SFits}
 use Rattle.whole.specs.Whole.{in_range}
-use Rattle.whole.proofs.Choice.{by-test, and_both, passed, both_passed, kept_new}
+use Rattle.whole.proofs.Choice.{by_test, and_both, passed, both_passed, kept_new}
 use Rattle.whole.proofs.Signed.{inside, within_fits}
 use Rattle.whole.proofs.Sums.{in_within_below}
 use Rattle.frame.specs.Kinds.{open_kind, post_kind, basic_fee_kind, excess_fee_kind}
@@ -48,14 +48,14 @@ byte_is (negsuc n) e = let b = inside e in absurd (omega arith)
 byte_below : (z : ℤ) → byte_of z < 256
 unfolding byte_of
 byte_below (pos n) =
-    by-test (is_byte (pos n)) (λ (t : is_byte (pos n) ≡ true). let b = inside t in rw t (omega arith)) (λ (t : is_byte (pos n) ≡ false). rw t (omega arith))
+    by_test (is_byte (pos n)) (λ (t : is_byte (pos n) ≡ true). let b = inside t in rw t (omega arith)) (λ (t : is_byte (pos n) ≡ false). rw t (omega arith))
 byte_below (negsuc n) =
-    by-test (is_byte (negsuc n)) (λ (t : is_byte (negsuc n) ≡ true). rw t (omega arith)) (λ (t : is_byte (negsuc n) ≡ false). rw t (omega arith))
+    by_test (is_byte (negsuc n)) (λ (t : is_byte (negsuc n) ≡ true). rw t (omega arith)) (λ (t : is_byte (negsuc n) ≡ false). rw t (omega arith))
 
 amount_fits : (h : Basis) → SFits w64 (settlement h).amount.0
 unfolding settled_by refused_hour
 amount_fits h =
-    by-test h.fits
+    by_test h.fits
     (λ (t : h.fits ≡ true). rw t (within_fits w64 tt (amount_by h.asked h.state h.hour seconds_of_hour)))
     (λ (t : h.fits ≡ false). rw t (search rules))
 
@@ -88,7 +88,7 @@ posts asks n places z =
 -- `desk | ledger`: the line is answered as the post by hand of the amount that the hour comes to, and leaves the book that this post leaves
 pub books_the_hour : (asks : words.Hour) (n : List ℤ) (places : Places) (book : Book) → framed_refusal (hour_frame asks n places) ≡ 0
     → Piped asks n places book (byte_of (number n 0)) (byte_of (number n 1))
-unfolding book.frameRefusal frame_book call_of
+unfolding book.frame_refusal frame_book call_of
 books_the_hour asks n places book z =
     let p = posts asks n places z in
     record { posted = p; answered = ap (reading_refusal book) p.reads; kept = ap (book_in book) p.reads }
@@ -98,7 +98,7 @@ books_the_hour asks n places book z =
 -- an entry that names a fee's setting, by its form and its range
 sets_fee : (kind : ℕ) (fee : Dollars) (f : Fee) (book : Book) → kind < 256 → in_form (fee_entry kind fee) ≡ true → eqb kind open_kind ≡ false → call_of (fee_entry kind fee) ≡ some (Call.loss_fee f fee.0)
     → is_loss_fee fee.0 ≡ true → SetsFee (fee_entry kind fee) f fee.0 book
-unfolding book.frameRefusal frame_book
+unfolding book.frame_refusal frame_book
 sets_fee kind fee f book k form call names range =
     record {
       reads = reads;

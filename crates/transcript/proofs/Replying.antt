@@ -9,7 +9,7 @@ use lib.Dec.{leb}
 use lib.IntN.{ℤ}
 use lib.ListN.{length, take}
 use lib.Seq.{take-append_seam}
-use Rattle.whole.proofs.Choice.{by-test}
+use Rattle.whole.proofs.Choice.{by_test}
 use Rattle.text.specs.Text.{put}
 use Rattle.question.specs.Inner.{room, answered, printed}
 use Rattle.question.specs.Questions.{reply_text}
@@ -20,7 +20,7 @@ use Rattle.transcript.specs.Calls.{Replies}
 written : (out text : List ℕ) → (answered (length out) text).refusal ≡ 0 → take (answered (length out) text).written (printed out text) ≡ text
 unfolding answered printed put
 written out text z =
-    by-test (leb room (length out))
+    by_test (leb room (length out))
     (λ (t : leb room (length out) ≡ true). rw t (take-append_seam text _))
     (λ (t : leb room (length out) ≡ false). let n : ◌≡◌ {A = ℕ} 1 0 = rw t at z in absurd (omega arith))
 

@@ -9,7 +9,7 @@ use lib.Dec.{eqb}
 use lib.IntN.{ℤ}
 use borrow.Author.Tests.{eqb-true, not-true}
 use Rattle.whole.specs.Choice.{pick}
-use Rattle.whole.proofs.Choice.{by-test, clash, and_both}
+use Rattle.whole.proofs.Choice.{by_test, clash, and_both}
 use Rattle.tokens.specs.Bytes.{line_byte, hash, separates, parts, is_letter}
 use Rattle.tokens.specs.Tokens.{is_between, is_comment, begins_word, after}
 use Rattle.asked.specs.Asking.{start_state, fault_in, finished, line_after, begins, stepped, state_next}
@@ -30,13 +30,13 @@ record Parts (b : ℕ) : Type 0 where
 one_of_five : (b : ℕ) → separates b ≡ true → Parts b
 unfolding separates parts is_letter
 one_of_five b e =
-    by-test (eqb b 32) (λ (t : eqb b 32 ≡ true). at 32 t (record { parts_it = refl; no_letter = refl; no_hash = refl }))
+    by_test (eqb b 32) (λ (t : eqb b 32 ≡ true). at 32 t (record { parts_it = refl; no_letter = refl; no_hash = refl }))
     (λ (t₁ : eqb b 32 ≡ false).
-    by-test (eqb b 9) (λ (t : eqb b 9 ≡ true). at 9 t (record { parts_it = refl; no_letter = refl; no_hash = refl }))
+    by_test (eqb b 9) (λ (t : eqb b 9 ≡ true). at 9 t (record { parts_it = refl; no_letter = refl; no_hash = refl }))
     (λ (t₂ : eqb b 9 ≡ false).
-    by-test (eqb b 44) (λ (t : eqb b 44 ≡ true). at 44 t (record { parts_it = refl; no_letter = refl; no_hash = refl }))
+    by_test (eqb b 44) (λ (t : eqb b 44 ≡ true). at 44 t (record { parts_it = refl; no_letter = refl; no_hash = refl }))
     (λ (t₃ : eqb b 44 ≡ false).
-    by-test (eqb b 13) (λ (t : eqb b 13 ≡ true). at 13 t (record { parts_it = refl; no_letter = refl; no_hash = refl }))
+    by_test (eqb b 13) (λ (t : eqb b 13 ≡ true). at 13 t (record { parts_it = refl; no_letter = refl; no_hash = refl }))
     (λ (t₄ : eqb b 13 ≡ false). at 10 (rw (t₁, t₂, t₃, t₄) at e) (record { parts_it = refl; no_letter = refl; no_hash = refl })))))
   where
     at : (k : ℕ) → eqb b k ≡ true → Parts k → Parts b
@@ -104,9 +104,9 @@ idle s n b ys q e =
 quiet_after : (t : Token) (b : ℕ) → quiet (after t b) ≡ true
 unfolding after
 quiet_after t b =
-    by-test (eqb b line_byte) (λ (u : eqb b line_byte ≡ true). rw u)
+    by_test (eqb b line_byte) (λ (u : eqb b line_byte ≡ true). rw u)
     (λ (u : eqb b line_byte ≡ false).
-    by-test (eqb b hash || is_comment t)
+    by_test (eqb b hash || is_comment t)
     (λ (v : (eqb b hash || is_comment t) ≡ true). rw (u, v))
     (λ (v : (eqb b hash || is_comment t) ≡ false). rw (u, v)))
 
@@ -146,9 +146,9 @@ module _ (asked : Asked) (line : ℕ) (n : List ℤ) where
   unfolding begins begins_word stepped after line_after numbers_stepped numbers_with fault_in
   commented c ys e =
       let b = no_second asked.opened (is_letter c) in
-      by-test (parts c)
+      by_test (parts c)
       (λ (t : parts c ≡ true).
-      by-test (eqb c hash) (λ (u : eqb c hash ≡ true). rw (b, t, e, u)) (λ (u : eqb c hash ≡ false). rw (b, t, e, u)))
+      by_test (eqb c hash) (λ (u : eqb c hash ≡ true). rw (b, t, e, u)) (λ (u : eqb c hash ≡ false). rw (b, t, e, u)))
       (λ (t : parts c ≡ false). rw (b, t))
 
   in_comment : (cs ys : List ℕ) → all_of (λ c. not (eqb c line_byte)) cs ≡ true → questions_from within n (cs ++ ys) ≡ questions_from within n ys

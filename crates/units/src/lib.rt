@@ -1,4 +1,6 @@
 // The paper's quantities as types of their own, and the one conversion between them.
+#![tactic(auto)]
+
 ghost use Rattle.std.specs.Prelude.{◌≡◌};
 ghost use Rattle.units.specs.Units.{in_kilowatts};
 
@@ -9,22 +11,22 @@ pub mod refusals;
 const LEAST_AWARD: i64 = -limits::AWARD;
 
 // Power and capacity; discharge is positive.
-#[derive(Drop)]
+#[derive(Clone, Copy)]
 pub struct Kilowatts(pub i64);
 
-#[derive(Drop)]
+#[derive(Clone, Copy)]
 pub struct Megawatts(pub i64);
 
 // Frequency.
-#[derive(Drop)]
+#[derive(Clone, Copy)]
 pub struct Millihertz(pub i64);
 
 // An amount.
-#[derive(Drop)]
+#[derive(Clone, Copy)]
 pub struct Dollars(pub i64);
 
 // A megawatt figure in kilowatts, or its refusal with 0.
-#[derive(Drop)]
+#[derive(Clone, Copy)]
 pub struct Converted {
     pub refusal: u8,
     pub power: Kilowatts,

@@ -21,9 +21,9 @@ and_both true b e = (refl, e)
 and_both false b e = (e, clash e)
 
 -- a test, by its value: the two cases of a lemma
-pub by-test {ℓ} : {P : Type ℓ} (b : Bool) → (b ≡ true → P) → (b ≡ false → P) → P
-by-test true f g = f refl
-by-test false f g = g refl
+pub by_test {ℓ} : {P : Type ℓ} (b : Bool) → (b ≡ true → P) → (b ≡ false → P) → P
+by_test true f g = f refl
+by_test false f g = g refl
 
 -- where nothing is refused the test passed, and so did the rest
 pub passed : (b : Bool) (n rest : ℕ) → unless b (suc n) rest ≡ 0 → (b ≡ true) × (rest ≡ 0)
@@ -50,7 +50,7 @@ in_order_then ((false, zero) ∷ ts) us n = clash n
 in_order_then ((false, suc k) ∷ ts) us n = rw (ne_eqb (suc k) 0 (λ e. absurd (omega arith)))
 
 pub both_passed : (k rest : ℕ) → or_else k rest ≡ 0 → (k ≡ 0) × (rest ≡ 0)
-both_passed k rest e = by-test (eqb k 0) (λ (t : eqb k 0 ≡ true). (eqb-true k 0 t, rw t at e)) (λ (t : eqb k 0 ≡ false). let z : k ≡ 0 = rw t at e in clash (sym t ∙ eq-eqb k 0 z))
+both_passed k rest e = by_test (eqb k 0) (λ (t : eqb k 0 ≡ true). (eqb-true k 0 t, rw t at e)) (λ (t : eqb k 0 ≡ false). let z : k ≡ 0 = rw t at e in clash (sym t ∙ eq-eqb k 0 z))
 
 -- which of two refusals it is
 pub or_first : {k : ℕ} (rest : ℕ) → (k ≡ 0 → ⊥) → or_else k rest ≡ k
@@ -65,7 +65,7 @@ unless_then true n rest last = refl
 unless_then false n rest last = rw (ne_eqb (suc n) 0 (λ e. absurd (omega arith)))
 
 pub or_else_then : (k rest last : ℕ) → or_else k (or_else rest last) ≡ or_else (or_else k rest) last
-or_else_then k rest last = by-test (eqb k 0) (λ (t : eqb k 0 ≡ true). rw t) (λ (t : eqb k 0 ≡ false). rw t (sym (ap (λ b. pick b last k) t)))
+or_else_then k rest last = by_test (eqb k 0) (λ (t : eqb k 0 ≡ true). rw t) (λ (t : eqb k 0 ≡ false). rw t (sym (ap (λ b. pick b last k) t)))
 
 -- what is kept
 pub kept_new : {A : Type 0} {k : ℕ} (new old : A) → k ≡ 0 → kept k new old ≡ new

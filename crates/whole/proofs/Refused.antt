@@ -6,12 +6,12 @@ use mathlib.Core.Bool.{true, false}
 use lib.Dec.{eqb}
 use borrow.Author.Tests.{eqb-true}
 use Rattle.whole.specs.Choice.{kept}
-use Rattle.whole.proofs.Choice.{by-test, kept_new, kept_old}
+use Rattle.whole.proofs.Choice.{by_test, kept_new, kept_old}
 
 module _ {A : Type 0} (number : A → ℕ) (bare : ℕ → A) (k : ℕ) (granted : A) {x : A} (none : number granted ≡ 0) (own : number (bare k) ≡ k) (answer : x ≡ kept k granted (bare k)) where
   pub number_is : number x ≡ k
   number_is =
-      by-test (eqb k 0)
+      by_test (eqb k 0)
       (λ (t : eqb k 0 ≡ true). let z = eqb-true k 0 t in ap number (answer ∙ kept_new granted (bare k) z) ∙ none ∙ sym z)
       (λ (t : eqb k 0 ≡ false). ap number (rw t at answer) ∙ own)
 

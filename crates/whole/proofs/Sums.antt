@@ -16,7 +16,7 @@ use Rattle.whole.specs.Inner.{summable, summed}
 use borrow.Author.Tests.{eqb-true, eqb-false, ne_eqb}
 use Rattle.whole.specs.Choice.{pick}
 use Rattle.whole.proofs.Folds.{all_at, all_of, fold_same, fold_empty}
-use Rattle.whole.proofs.Choice.{both, by-test}
+use Rattle.whole.proofs.Choice.{both, by_test}
 use Rattle.whole.proofs.Signed.{signed, inside, opposite, sum}
 
 -- a range about zero that a test found
@@ -87,7 +87,7 @@ pub sum_one : (n q : ℕ) (z : ℤ) → 1 ≤ q → q ≤ n → sum_to n (λ k. 
 unfolding fold_to
 sum_one zero q z o l = absurd (omega arith)
 sum_one (suc n) q z o l =
-    by-test (eqb q (suc n))
+    by_test (eqb q (suc n))
     (λ (e : eqb q (suc n) ≡ true).
     let i = eqb-true q (suc n) e in
     rw e (ap (λ y. y +ℤ z) (sum_none n (λ k. pick (eqb q (suc k)) z (pos 0)) (λ k m. ap (λ t. pick t z (pos 0)) (ne_eqb q (suc k) (λ j. omega arith)))) ∙ +ℤ_idl z))

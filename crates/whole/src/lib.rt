@@ -1,4 +1,6 @@
 // Signed whole numbers, and the small pieces that every crate above is made of.
+#![tactic(auto)]
+
 ghost use Rattle.std.specs.Prelude.{◌≡◌, pos, nat_abs, get_or};
 ghost use Rattle.std.specs.Int.{w64};
 ghost use Rattle.std.proofs.Common.{SFits};
@@ -14,7 +16,7 @@ const MOST_TERM: i64 = 1_000_000_000_000;
 const LEAST_TERM: i64 = -MOST_TERM;
 
 // A sum, and whether it could be taken.
-#[derive(Drop)]
+#[derive(Clone, Copy)]
 pub struct Summed {
     pub fits: bool,
     pub sum: i64,
@@ -149,6 +151,7 @@ fn half_up(m: u64, d: u64) -> u64
 }
 
 // m / d rounded up.
+#[tactic(auto, using(crate::proofs::Rounding::up_zero, crate::proofs::Rounding::up_more, crate::proofs::Rounding::up_less))]
 fn round_up(m: u64, d: u64) -> u64
     ensures { result ≡ round_up m d }
 {

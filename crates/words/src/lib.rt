@@ -1,4 +1,6 @@
 // The questions of the program `desk`: of each its word, and the shape of its numbers. And the numbers of the faults.
+#![tactic(auto)]
+
 ghost use Rattle.std.specs.Prelude.{◌≡◌};
 ghost use Rattle.words.specs.Questions.{known, singles, seconds_shape, scores_shape, singles_groups, hour_shape, state_shape, unknown, question_of};
 
@@ -8,7 +10,7 @@ mod codes;
 pub mod faults;
 
 // What is asked: a rule or an hour, answered by a few fields; a run of them; a frame or two; a logger's frame.
-#[derive(Drop)]
+#[derive(Clone, Copy)]
 pub enum Question {
     Rule(Rule),
     Hour(Hour),
@@ -18,7 +20,7 @@ pub enum Question {
     Unknown,
 }
 
-#[derive(Drop)]
+#[derive(Clone, Copy)]
 pub enum Rule {
     Kilowatts,
     Curve,
@@ -34,14 +36,14 @@ pub enum Rule {
     Pair,
 }
 
-#[derive(Drop)]
+#[derive(Clone, Copy)]
 pub enum Hour {
     Dreg,
     Edreg,
     Sreg,
 }
 
-#[derive(Drop)]
+#[derive(Clone, Copy)]
 pub enum Series {
     Ramp,
     DregScores,
@@ -49,7 +51,7 @@ pub enum Series {
     SregScores,
 }
 
-#[derive(Drop)]
+#[derive(Clone, Copy)]
 pub enum Framing {
     DregFrame,
     EdregFrame,
@@ -60,7 +62,7 @@ pub enum Framing {
 
 // The shape of a question's numbers: so many single ones; up to four lists, each its count and then entries of so
 // many numbers (0: no such list); so many numbers; and groups of so many (0: none), to the end.
-#[derive(Drop)]
+#[derive(Clone, Copy)]
 pub struct Shape {
     pub head: u8,
     pub lists: [u8; 4],
@@ -69,7 +71,7 @@ pub struct Shape {
 }
 
 // What a word asks: 0, or 101 where it is none of the words; the question; the shape of its numbers.
-#[derive(Drop)]
+#[derive(Clone, Copy)]
 pub struct Row {
     pub fault: u8,
     pub question: Question,
@@ -77,7 +79,7 @@ pub struct Row {
 }
 
 // The answer of a question with few fields: a refusal's number and the fields, zeros after them.
-#[derive(Drop)]
+#[derive(Clone, Copy)]
 pub struct Few {
     pub refusal: u8,
     pub count: usize,

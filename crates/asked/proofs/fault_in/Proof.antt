@@ -7,12 +7,12 @@ use Rattle.asked.proofs.fault_in.Tie as tie
 unless_requires : tie.Need-unless-requires
 unless_requires c κs = search rules
 
-or_else_requires : tie.Need-or-else-requires
+or_else_requires : tie.Need-or_else-requires
 or_else_requires c κs = search rules
 
 returns : tie.Need-returns
 unfolding fault_in
-returns c = simp c.before.unless.ensures at c.or_else.ensures
+returns c = simp c.unless.ensures at c.or_else.ensures
 
 pub fault_in_spec : {M : Type 1} → statement M
 fault_in_spec = tie.close (tie.spec unless_requires or_else_requires returns)

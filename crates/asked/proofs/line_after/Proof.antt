@@ -6,20 +6,20 @@ use Rattle.asked.specs.Asking.{line_after}
 use Rattle.asked.proofs.line_after.Statement.{statement}
 use Rattle.asked.proofs.line_after.Tie as tie
 
-add_result : tie.Need-overflow-add-result
+add_result : tie.Need-overflow_add-result
 add_result c = search rules
 
-returns : tie.Need-returns
+returns : tie.Need-returns-then-line-lt-LAST
 unfolding line_after
-returns c = rw (eq-eqb _ _ c.before.if1.true) (omega arith)
+returns c = rw (eq-eqb _ _ c.if-b-eq10.true) (omega arith)
 
-returns_2 : tie.Need-returns-2
+returns_2 : tie.Need-returns-else-line-lt-LAST
 unfolding line_after
-returns_2 c = rw (eq-eqb _ _ c.before.if1.true) (omega arith)
+returns_2 c = rw (eq-eqb _ _ c.if-b-eq10.true) (omega arith)
 
-returns_3 : tie.Need-returns-3
+returns_3 : tie.Need-returns-else-b-eq10
 unfolding line_after
-returns_3 c = rw (ne_eqb _ _ c.if1.false)
+returns_3 c = rw (ne_eqb _ _ c.if-b-eq10.false)
 
 pub line_after_spec : {M : Type 1} → statement M
 line_after_spec = tie.close (tie.spec add_result returns returns_2 returns_3)

@@ -8,13 +8,13 @@ use Rattle.asked.proofs.reach.Tie as tie
 nothing_requires : tie.Need-nothing-requires
 nothing_requires c κs = search rules
 
-returns : tie.Need-returns
+returns : tie.Need-returns-then-ended
 unfolding reached_of state_next
-returns c = rw (c.before.if1.true, c.nothing.ensures)
+returns c = rw (c.if-ended.true, c.nothing.ensures)
 
-returns_2 : tie.Need-returns-2
+returns_2 : tie.Need-returns
 unfolding reached_of
-returns_2 c = rw c.if1.false
+returns_2 c = rw c.if-ended.false
 
 pub reach_spec : {M : Type 1} → statement M
 reach_spec = tie.close (tie.spec nothing_requires returns returns_2)

@@ -9,19 +9,19 @@ use Rattle.asked.proofs.read.Tie as tie
 refused_requires : tie.Need-refused-requires
 refused_requires c κs = search rules
 
-returns : tie.Need-returns
+returns : tie.Need-returns-then-numbers-ne-MOST
 unfolding read_of read_run
-returns c = rw (ne_eqb _ _ c.before.if1.true) (c.refused.ensures, refl)
+returns c = rw (ne_eqb _ _ c.if-numbers-ne-MOST.true) (c.refused.ensures, refl)
 
-read_all_requires : tie.Need-read-all-requires
+read_all_requires : tie.Need-read_all-requires
 read_all_requires c κs = search rules
 
-same_length : tie.Need-same-length
+same_length : tie.Need-shape_of-numbers
 same_length c = search rules
 
-returns_2 : tie.Need-returns-2
+returns_2 : tie.Need-returns
 unfolding read_of read_run
-returns_2 c = rw (eq-eqb _ _ c.before.before.before.if1.false) c.before.read_all.ensures
+returns_2 c = rw (eq-eqb _ _ c.if-numbers-ne-MOST.false) c.read_all.ensures
 
 pub read_spec : {M : Type 1} → statement M
 read_spec = tie.close (tie.spec refused_requires returns read_all_requires same_length returns_2)

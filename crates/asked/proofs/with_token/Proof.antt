@@ -9,40 +9,40 @@ use borrow.Author.Rules.{rules}
 use Rattle.asked.proofs.with_token.Statement.{statement}
 use Rattle.asked.proofs.with_token.Tie as tie
 
-number_requires : tie.Need-number-requires
+number_requires : tie.Need-number-number-requires
 number_requires c κs = search rules
 
-fault_in_requires : tie.Need-fault-in-requires
+fault_in_requires : tie.Need-fault_in-fault-requires
 fault_in_requires c κs = search rules
 
 -- the fault that was found
-fault : (c : tie.After-fault-in) → c.fault-in.result ≡ token_fault c.before.before.args.asked.count c.before.before.args.token
-fault c = rw c.before.number.ensures at c.fault-in.ensures
+fault : (c : tie.After-fault_in-fault) → c.fault_in-fault.result ≡ token_fault c.args.asked.count c.args.token
+fault c = rw c.number-number.ensures at c.fault_in-fault.ensures
 
-asking_requires : tie.Need-asking-requires
+asking_requires : tie.Need-asking-question-requires
 asking_requires c κs = search rules
 
-add_t8 : tie.Need-overflow-add-t8
+add_t8 : tie.Need-overflow_add-result
 add_t8 c =
     let q = c.before.before in
-    let a = q.before.before.before.args in
-    omega (arith, kept_room_lem a.asked.count a.token (sym (fault q.before) ∙ c.before.if1.true), ap (λ (q : Asked). q.count) q.asking.ensures ∙ count_asking a.asked a.line)
+    let a = q.args in
+    omega (arith, kept_room_lem a.asked.count a.token (sym (fault q.before) ∙ c.if-fault-eq0.true), ap (λ (q : Asked). q.count) q.asking-question.ensures ∙ count_asking a.asked a.line)
 
-returns : tie.Need-returns
+returns : tie.Need-returns-then-fault-eq0
 unfolding with_token
 returns c =
     let q = c.before.before in
-    rw (eq-eqb _ _ (sym (fault q.before) ∙ c.before.if1.true), q.asking.ensures)
+    rw (eq-eqb _ _ (sym (fault q.before) ∙ c.if-fault-eq0.true), q.asking-question.ensures)
 
 faulted_requires : tie.Need-faulted-requires
 faulted_requires c κs = search rules
 
-returns_2 : tie.Need-returns-2
+returns_2 : tie.Need-returns
 unfolding with_token
 returns_2 c =
     let q = c.before.before in
     let t = q.before in
-    rw (ne_eqb _ _ (λ e. c.before.if1.false (fault t ∙ e)), ← q.asking.ensures, ← (fault t)) c.faulted.ensures
+    rw (ne_eqb _ _ (λ e. c.if-fault-eq0.false (fault t ∙ e)), ← q.asking-question.ensures, ← (fault t)) c.faulted.ensures
 
 pub with_token_spec : {M : Type 1} → statement M
 with_token_spec =

@@ -12,7 +12,7 @@ unless_requires c κs = search rules
 
 returns : tie.Need-returns
 unfolding bands_refusal
-returns c = simp c.before.fit.ensures at c.unless.ensures
+returns c = simp c.fit.ensures at c.unless.ensures
 
 pub check_spec : {M : Type 1} → statement M
 check_spec = tie.close (tie.spec fit_requires unless_requires returns)

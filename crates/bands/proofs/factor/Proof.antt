@@ -12,30 +12,30 @@ use Rattle.bands.specs.Bands.{factor_refusal, factor_answer}
 use Rattle.bands.proofs.factor.Statement.{statement}
 use Rattle.bands.proofs.factor.Tie as tie
 
-fit_requires : tie.Need-fit-requires
+fit_requires : tie.Need-fit-fits-requires
 fit_requires c κs = search rules
 
-unless_requires : tie.Need-unless-requires
+unless_requires : tie.Need-unless-rest-requires
 unless_requires c κs = search rules
 
-unless_requires_2 : tie.Need-unless-requires-2
+unless_requires_2 : tie.Need-unless-k-requires
 unless_requires_2 c κs = search rules
 
-cast_first_place : tie.Need-overflow-cast-first-place
+cast_first_place : tie.Need-overflow_cast-rate
 cast_first_place c = search rules
 
-first_place_requires : tie.Need-first-place-requires
+first_place_requires : tie.Need-first_place-requires
 first_place_requires c κs = search rules
 
-at_requires : tie.Need-at-requires
+at_requires : tie.Need-at-found-requires
 at_requires c κs = search rules
 
-with_factor_requires : tie.Need-with-factor-requires
+with_factor_requires : tie.Need-with_factor-requires
 with_factor_requires c κs = search rules
 
-refusal : (c : tie.After-unless2) → let a = c.before.before.before.args in c.unless2.result ≡ factor_refusal a.thresholds.now a.factors.now a.rate
+refusal : (c : tie.After-unless-k) → let a = c.args in c.unless-k.result ≡ factor_refusal a.thresholds.now a.factors.now a.rate
 unfolding factor_refusal
-refusal c = simp (c.before.unless.ensures, c.before.before.fit.ensures) at c.unless2.ensures
+refusal c = simp (c.unless-rest.ensures, c.fit-fits.ensures) at c.unless-k.ensures
 
 returns : tie.Need-returns
 unfolding factor_answer
@@ -43,11 +43,11 @@ returns c =
     let f = c.before in
     let p = f.before in
     let k = p.before in
-    let a = k.before.before.before.args in
+    let a = k.args in
     let rate : to_z w64 a.rate ≡ pos a.rate = to_z-of_z (cast_first_place k) in
-    let place = rw rate at p.first-place.ensures in
-    let found = back w64 f.at.type-inv (f.at.ensures ∙ ap (λ (i : ℕ). get_or a.factors.now i (pos 0)) place) in
-    c.with-factor.ensures ∙ rw (refusal k, found)
+    let place = rw rate at p.first_place.ensures in
+    let found = back w64 f.at-found.type_inv (f.at-found.ensures ∙ ap (λ (i : ℕ). get_or a.factors.now i (pos 0)) place) in
+    c.with_factor.ensures ∙ rw (refusal k, found)
 
 pub factor_spec : {M : Type 1} → statement M
 factor_spec =

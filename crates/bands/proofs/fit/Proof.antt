@@ -6,16 +6,16 @@ use Rattle.bands.specs.Bands.{bands_fit}
 use Rattle.bands.proofs.fit.Statement.{statement}
 use Rattle.bands.proofs.fit.Tie as tie
 
-all_within_requires : tie.Need-all-within-requires
+all_within_requires : tie.Need-all_within-requires
 all_within_requires c κs = search rules
 
-all_within_requires_2 : tie.Need-all-within-requires-2
+all_within_requires_2 : tie.Need-all_within-requires-2
 all_within_requires_2 c κs = search rules
 
 fall_requires : tie.Need-fall-requires
 fall_requires c κs = search rules
 
-last_threshold_requires : tie.Need-last-threshold-requires
+last_threshold_requires : tie.Need-last_threshold-requires
 last_threshold_requires c κs = search rules
 
 within_requires : tie.Need-within-requires
@@ -27,7 +27,7 @@ returns c =
     let l = c.before in
     let f = l.before in
     let t = f.before in
-    rw (t.before.all-within.ensures, t.all-within2.ensures, f.fall.ensures, c.within.ensures, back w64 l.last-threshold.type-inv l.last-threshold.ensures)
+    rw (t.all_within.ensures, t.all_within-2.ensures, f.fall.ensures, c.within.ensures, back w64 l.last_threshold.type_inv l.last_threshold.ensures)
 
 pub fit_spec : {M : Type 1} → statement M
 fit_spec =

@@ -8,16 +8,16 @@ use borrow.Author.Rules.{rules}
 use Rattle.board.proofs.mark_at.Statement.{statement}
 use Rattle.board.proofs.mark_at.Tie as tie
 
-returns : tie.Need-returns
+returns : tie.Need-returns-then-marks-at
 returns c =
-    let a = c.before.args in
+    let a = c.args in
     let out : length a.marks.now ≤ a.at = omega arith in
     sym (get_or-eq_default a.marks.now false out)
 
-shared_slice_read_result : tie.Need-shared-slice-read-result
+shared_slice_read_result : tie.Need-bounds-marks-at
 shared_slice_read_result c = search rules
 
-returns_2 : tie.Need-returns-2
+returns_2 : tie.Need-returns
 returns_2 c = search rules
 
 pub mark_at_spec : {M : Type 1} → statement M

@@ -22,59 +22,59 @@ use Rattle.board.proofs.places_fit.Tie as tie
 abbrev fits : ℕ → List Bool → List ℤ → ℕ → Bool
 fits days marks amounts p = place_fits days p (get_or marks p false) (get_or amounts p (pos 0))
 
-abbrev invariant_loop : tie.invariant-loop
+abbrev invariant_loop : tie.invariant-loop-p
 invariant_loop days marks amounts p₀ p = (p ≤ month_places) × (all_to p (fits days marks amounts) ≡ true)
 
-abbrev decreases_loop : tie.decreases-loop
+abbrev decreases_loop : tie.decreases-loop-p
 decreases_loop days marks amounts p₀ p = month_places - p
 
-loop_holds : tie.Need-loop-init invariant_loop decreases_loop
+loop_holds : tie.Need-loop-p-init invariant_loop decreases_loop
 loop_holds c = (omega arith, fold_none true ◌&&◌ _)
 
-mul_a : tie.Need-overflow-mul-a invariant_loop decreases_loop
+mul_a : tie.Need-offset_bounds-amounts-p invariant_loop decreases_loop
 mul_a c = omega arith
 
-shared_slice_copy_out_a : tie.Need-shared-slice-copy-out-a invariant_loop decreases_loop
+shared_slice_copy_out_a : tie.Need-bounds-amounts-p invariant_loop decreases_loop
 shared_slice_copy_out_a c = omega arith
 
-shared_slice_read_place_fits : tie.Need-shared-slice-read-place-fits invariant_loop decreases_loop
+shared_slice_read_place_fits : tie.Need-bounds-marks-p invariant_loop decreases_loop
 shared_slice_read_place_fits c = omega arith
 
-place_fits_requires : tie.Need-place-fits-requires invariant_loop decreases_loop
+place_fits_requires : tie.Need-place_fits-requires invariant_loop decreases_loop
 place_fits_requires c κs = search rules
 
-amount_fits : (c : tie.After-a invariant_loop decreases_loop) → SFits w64 (get_or c.before.before.before.before.args.amounts.now c.before.before.loop.p (pos 0))
+amount_fits : (c : tie.After-a-1 invariant_loop decreases_loop) → SFits w64 (get_or c.args.amounts.now c.loop-p.p (pos 0))
 amount_fits c = search rules
 
 -- what the place's test found
-judged : (c : tie.After-place-fits invariant_loop decreases_loop) →
+judged : (c : tie.After-place_fits invariant_loop decreases_loop) →
     let l = c.before.before.before.before in
-    let a = l.before.before.args in
-    c.place-fits.result ≡ fits a.days a.marks.now a.amounts.now l.loop.p
+    let a = l.args in
+    c.place_fits.result ≡ fits a.days a.marks.now a.amounts.now l.loop-p.p
 judged c =
     let l = c.before.before.before.before in
-    let a = l.before.before.args in
-    let p = l.loop.p in
-    c.place-fits.ensures ∙ ap (place_fits a.days p (get_or a.marks.now p false)) (to_z-of_z (amount_fits c.before.before))
+    let a = l.args in
+    let p = l.loop-p.p in
+    c.place_fits.ensures ∙ ap (place_fits a.days p (get_or a.marks.now p false)) (to_z-of_z (amount_fits c.before.before))
 
-returns : tie.Need-returns invariant_loop decreases_loop
+returns : tie.Need-returns-then-not-place_fits invariant_loop decreases_loop
 returns c =
     let l = c.before.before.before.before.before in
-    sym (all_fails month_places _ l.loop.p (omega arith) (sym (judged c.before) ∙ not-true _ c.if1.true))
+    sym (all_fails month_places _ l.loop-p.p (omega arith) (sym (judged c.before) ∙ not-true _ c.if-not-place_fits.true-raw))
 
-add_p : tie.Need-overflow-add-p invariant_loop decreases_loop
+add_p : tie.Need-overflow_add-p invariant_loop decreases_loop
 add_p c = omega arith
 
-loop_less : tie.Need-loop-smaller invariant_loop decreases_loop
+loop_less : tie.Need-loop-p-smaller invariant_loop decreases_loop
 loop_less c = omega arith
 
-loop_again : tie.Need-loop-preserved invariant_loop decreases_loop
+loop_again : tie.Need-loop-p-preserved invariant_loop decreases_loop
 loop_again c =
     let l = c.before.before.before.before.before in
-    (omega arith, fold_step true ◌&&◌ _ _ ∙ both l.loop.invariant.1 (sym (judged c.before) ∙ not-false _ c.if1.false))
+    (omega arith, fold_step true ◌&&◌ _ _ ∙ both l.loop-p.invariant.1 (sym (judged c.before) ∙ not-false _ c.if-not-place_fits.false-raw))
 
-returns_2 : tie.Need-returns-2 invariant_loop decreases_loop
-returns_2 c = let e : c.before.loop.p ≡ month_places = omega arith in sym (rw e at c.before.loop.invariant.1)
+returns_2 : tie.Need-returns invariant_loop decreases_loop
+returns_2 c = let e : c.loop-p.p ≡ month_places = omega arith in sym (rw e at c.loop-p.invariant.1)
 
 pub places_fit_spec : {M : Type 1} → statement M
 places_fit_spec =

@@ -6,39 +6,39 @@ use borrow.Author.Rules.{rules}
 use Rattle.board.proofs.post_in.Statement.{statement}
 use Rattle.board.proofs.post_in.Tie as tie
 
-place_ruled_requires : tie.Need-place-ruled-requires
+place_ruled_requires : tie.Need-place_ruled-k-requires
 place_ruled_requires c κs = search rules
 
 put_requires : tie.Need-put-requires
 put_requires c κs = search rules
 
-same_length : tie.Need-same-length
+same_length : tie.Need-shape_of-marks-then-k-eq0
 same_length c = search rules
 
-same_length_2 : tie.Need-same-length-2
+same_length_2 : tie.Need-shape_of-amounts-then-k-eq0
 same_length_2 c = search rules
 
-returns : tie.Need-returns
+returns : tie.Need-returns-then-k-eq0
 returns c =
     let p = c.before.before.before in
     let t = p.before.before.before in
     let n = t.before in
-    let a = n.before.before.before.before.args in
-    let is = n.place-ruled.ensures in
-    (is, let_through a.head a.marks.now a.amounts.now a.place (Deed.posts (amount_item a.amount.0)) _ is t.if1.true _ _ p.put.ensures.0 p.put.ensures.1)
+    let a = n.args in
+    let is = n.place_ruled-k.ensures in
+    (is, let_through a.head a.marks.now a.amounts.now a.place (Deed.posts (amount_item a.amount.0)) _ is t.if-k-eq0.true _ _ p.put.ensures.0 p.put.ensures.1)
 
-same_length_3 : tie.Need-same-length-3
+same_length_3 : tie.Need-shape_of-marks-else-k-eq0
 same_length_3 c = search rules
 
-same_length_4 : tie.Need-same-length-4
+same_length_4 : tie.Need-shape_of-amounts-else-k-eq0
 same_length_4 c = search rules
 
-returns_2 : tie.Need-returns-2
+returns_2 : tie.Need-returns-else-k-eq0
 returns_2 c =
     let n = c.before in
-    let a = n.before.before.before.before.args in
-    let is = n.place-ruled.ensures in
-    (is, turned_away a.head a.marks.now a.amounts.now a.place (Deed.posts (amount_item a.amount.0)) _ is c.if1.false)
+    let a = n.args in
+    let is = n.place_ruled-k.ensures in
+    (is, turned_away a.head a.marks.now a.amounts.now a.place (Deed.posts (amount_item a.amount.0)) _ is c.if-k-eq0.false)
 
 pub post_in_spec : {M : Type 1} → statement M
 post_in_spec =

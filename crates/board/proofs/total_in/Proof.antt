@@ -18,55 +18,55 @@ use borrow.Author.Rules.{rules}
 use Rattle.board.proofs.total_in.Statement.{statement}
 use Rattle.board.proofs.total_in.Tie as tie
 
-check_in_requires : tie.Need-check-in-requires
+check_in_requires : tie.Need-check_in-k-requires
 check_in_requires c κs = search rules
 
-returns : tie.Need-returns
+returns : tie.Need-returns-then-k-ne0
 returns c =
-    let a = c.before.before.before.args in
-    total_away a.head.days (board_in a.head a.marks.now a.amounts.now) c.before.check-in.result c.before.check-in.ensures c.if1.true
+    let a = c.args in
+    total_away a.head.days (board_in a.head a.marks.now a.amounts.now) c.check_in-k.result c.check_in-k.ensures c.if-k-ne0.true
 
-sum_requires : tie.Need-sum-requires
+sum_requires : tie.Need-sum-s-requires
 sum_requires c κs = search rules
 
-number : (c : tie.Else1) → let a = c.before.before.before.args in ledger_refusal (month_rules a.head.days) (board_in a.head a.marks.now a.amounts.now) ≡ 0
-number c = sym c.before.check-in.ensures ∙ c.if1.false
+number : (c : tie.Else-k-ne0) → let a = c.args in ledger_refusal (month_rules a.head.days) (board_in a.head a.marks.now a.amounts.now) ≡ 0
+number c = sym c.check_in-k.ensures ∙ c.if-k-ne0.false
 
-good : (c : tie.Else1) → let a = c.before.before.before.args in Good (month_rules a.head.days) (board_in a.head a.marks.now a.amounts.now)
+good : (c : tie.Else-k-ne0) → let a = c.args in Good (month_rules a.head.days) (board_in a.head a.marks.now a.amounts.now)
 good c = ledger_form _ _ (number c)
 
 -- the fees and the sum as the code hands them on
-basic_is : (c : tie.After-struct-told) → let z = c.before.before.before.before.before.before.args.head.basic.0 in to_z w64 (of_z w64 z) ≡ z
+basic_is : (c : tie.After-struct_told-1) → let z = c.args.head.basic.0 in to_z w64 (of_z w64 z) ≡ z
 basic_is c = search rules
 
-excess_is : (c : tie.After-struct-told2) → let z = c.before.before.before.before.before.before.before.args.head.excess.0 in to_z w64 (of_z w64 z) ≡ z
+excess_is : (c : tie.After-struct_told-2-1) → let z = c.args.head.excess.0 in to_z w64 (of_z w64 z) ≡ z
 excess_is c = search rules
 
-sum_is : (c : tie.After-sum) → to_z w64 (of_z w64 c.sum.result.sum) ≡ (summed c.before.before.before.before.before.before.before.before.args.amounts.now).sum
-sum_is c = let f : SFits w64 c.sum.result.sum = search rules in to_z-of_z f ∙ ap (λ (x : Summed). x.sum) c.sum.ensures
+sum_is : (c : tie.After-sum-s) → to_z w64 (of_z w64 c.sum-s.result.sum) ≡ (summed c.args.amounts.now).sum
+sum_is c = let f : SFits w64 c.sum-s.result.sum = search rules in to_z-of_z f ∙ ap (λ (x : Summed). x.sum) c.sum-s.ensures
 
-sub_t12 : tie.Need-overflow-sub-t12
+sub_t12 : tie.Need-overflow_sub-result
 sub_t12 c =
     let q = c.before.before in
     let e = q.before.before.before.before.before in
-    let a = e.before.before.before.args in
+    let a = e.args in
     let b = board_in a.head a.marks.now a.amounts.now in
     simp (sum_is q, basic_is q.before.before, all_summed a.head.days b (good e)) (within_fits w64 tt (less_basic a.head.days b (good e)))
 
-sub_t13 : tie.Need-overflow-sub-t13
+sub_t13 : tie.Need-overflow_sub-result-2
 sub_t13 c =
     let q = c.before.before in
     let e = q.before.before.before.before.before in
-    let a = e.before.before.before.args in
+    let a = e.args in
     let b = board_in a.head a.marks.now a.amounts.now in
     rw (to_z-of_z (sub_t12 c))
     (simp (sum_is q, basic_is q.before.before, excess_is q.before, all_summed a.head.days b (good e)) (within_fits w64 tt (less_both a.head.days b (good e))))
 
-returns_2 : tie.Need-returns-2
+returns_2 : tie.Need-returns
 returns_2 c =
     let q = c.before.before in
     let e = q.before.before.before.before.before in
-    let a = e.before.before.before.args in
+    let a = e.args in
     let b = board_in a.head a.marks.now a.amounts.now in
     let one = to_z-of_z (sub_t12 c) ∙ ap₂ ◌-ℤ◌ (sum_is q) (basic_is q.before.before) in
     ap (λ (z : ℤ). told_of (0, z)) (to_z-of_z (sub_t13 c) ∙ ap₂ ◌-ℤ◌ one (excess_is q.before) ∙ total_sum a.head.days b (good e))

@@ -4,28 +4,28 @@ use borrow.Author.Rules.{rules}
 use Rattle.book.proofs.open_month.Statement.{statement}
 use Rattle.book.proofs.open_month.Tie as tie
 
-returns : tie.Need-returns
-returns c = opened_14 _ _ _ _ c.if1.true
+returns : tie.Need-returns-then-cover
+returns c = opened_14 _ _ _ _ c.if-cover.true
 
-open_in_requires : tie.Need-open-in-requires
+open_in_requires : tie.Need-open_in-headed-requires
 open_in_requires c κs = search rules
 
-open_taken_requires : tie.Need-open-taken-requires
+open_taken_requires : tie.Need-open_taken-requires
 open_taken_requires c κs = search rules
 
-same_length : tie.Need-same-length
+same_length : tie.Need-shape_of-marks
 same_length c = search rules
 
-same_length_2 : tie.Need-same-length-2
+same_length_2 : tie.Need-shape_of-amounts
 same_length_2 c = search rules
 
-returns_2 : tie.Need-returns-2
+returns_2 : tie.Need-returns
 returns_2 c =
     let o = c.before.before.before.before in
     let e = o.before.before.before in
-    let a = e.before.before.args in
-    let h = o.open_in.ensures in
-    opened_by a.cover a.marks.now a.amounts.now a.days _ _ _ _ e.if1.false c.open-taken.ensures h.0 h.1.0 h.1.1
+    let a = e.args in
+    let h = o.open_in-headed.ensures in
+    opened_by a.cover a.marks.now a.amounts.now a.days _ _ _ _ e.if-cover.false c.open_taken.ensures h.0 h.1.0 h.1.1
 
 pub open_month_spec : {M : Type 1} → statement M
 open_month_spec =

@@ -4,14 +4,14 @@ use borrow.Author.Rules.{rules}
 use Rattle.book.proofs.open_taken.Statement.{statement}
 use Rattle.book.proofs.open_taken.Tie as tie
 
-with_head_requires : tie.Need-with-head-requires
+with_head_requires : tie.Need-with_head-requires
 with_head_requires c κs = search rules
 
-returns : tie.Need-returns
-returns c = let t = c.before in rw (eq-eqb t.before.before.args.headed.refusal 0 t.if1.true) c.with-head.ensures
+returns : tie.Need-returns-then-headed-eq0
+returns c = let t = c.before in rw (eq-eqb t.args.headed.refusal 0 t.if-headed-eq0.true) c.with_head.ensures
 
-returns_2 : tie.Need-returns-2
-returns_2 c = rw (ne_eqb c.before.before.args.headed.refusal 0 c.if1.false)
+returns_2 : tie.Need-returns
+returns_2 c = rw (ne_eqb c.args.headed.refusal 0 c.if-headed-eq0.false)
 
 pub open_taken_spec : {M : Type 1} → statement M
 open_taken_spec = tie.close (tie.spec with_head_requires returns returns_2)

@@ -15,69 +15,69 @@ use Rattle.curve.proofs.Limits.{place_within, placed_by, upper_in, lower_in, upp
 use Rattle.curve.proofs.bounds_at.Statement.{statement}
 use Rattle.curve.proofs.bounds_at.Tie as tie
 
-pairs_requires : tie.Need-pairs-requires
+pairs_requires : tie.Need-pairs-pairs-requires
 pairs_requires c κs = search rules
 
-frequency_fits : (c : tie.After-struct-told2) → SFits w64 c.before.before.before.args.frequency.0
+frequency_fits : (c : tie.After-struct_told-2-1) → SFits w64 c.args.frequency.0
 frequency_fits c = search rules
 
-reference_fits : (c : tie.After-struct-told2) → SFits w64 c.before.before.before.args.reference.0
+reference_fits : (c : tie.After-struct_told-2-1) → SFits w64 c.args.reference.0
 reference_fits c = search rules
 
-fit : (c : tie.After-struct-told2) → let a = c.before.before.before.args in PastFits a.reference.0 a.frequency.0
+fit : (c : tie.After-struct_told-2-1) → let a = c.args in PastFits a.reference.0 a.frequency.0
 fit c = let s = c.before.before.before in past_fits s.args.reference.0 s.args.frequency.0 s.requires.reference s.requires.frequency
 
-sub_first : tie.Need-overflow-sub-first
+sub_first : tie.Need-overflow_sub-first
 sub_first c = rw (to_z-of_z (reference_fits c)) (fit c).first
 
-sub_past : tie.Need-overflow-sub-past
+sub_past : tie.Need-overflow_sub-past
 sub_past c = rw (to_z-of_z (sub_first c), to_z-of_z (reference_fits c), to_z-of_z (frequency_fits c)) (fit c).past
 
-place_requires : tie.Need-place-requires
+place_requires : tie.Need-place-k-requires
 place_requires c κs = search rules
 
 -- the frequency that the table is read at, and its place
 abbrev read : tie.Start → ℤ
 read s = moved_back s.args.reference.0 s.args.frequency.0
 
-is_placed : (c : tie.After-place) → c.place.result ≡ place_at (read c.before.before.before.before)
+is_placed : (c : tie.After-place-k) → c.place-k.result ≡ place_at (read c.before.before.before.before)
 is_placed c =
     let t = c.before in
-    let a = t.before.before.before.args in
-    placed_by a.reference.0 a.frequency.0 (to_z-of_z (sub_past t) ∙ rw (to_z-of_z (sub_first t), to_z-of_z (reference_fits t), to_z-of_z (frequency_fits t))) c.place.ensures
+    let a = t.args in
+    placed_by a.reference.0 a.frequency.0 (to_z-of_z (sub_past t) ∙ rw (to_z-of_z (sub_first t), to_z-of_z (reference_fits t), to_z-of_z (frequency_fits t))) c.place-k.ensures
 
-place_small : (c : tie.After-place) → c.place.result < last_place + 1
+place_small : (c : tie.After-place-k) → c.place-k.result < last_place + 1
 place_small c = let p = is_placed c in omega (arith, place_within (read c.before.before.before.before))
 
-mul_k : tie.Need-overflow-mul-k
+mul_k : tie.Need-overflow_mul-k
 mul_k c = let p = place_small c in record { fits = omega arith }
 
-array_copy_out_upper : tie.Need-array-copy-out-upper
+array_copy_out_upper : tie.Need-bounds-pairs-k
 array_copy_out_upper c = let p = place_small c in omega arith
 
-add_lower : tie.Need-overflow-add-lower
+add_lower : tie.Need-overflow_add-lower
 add_lower c = let p = place_small c.before in record { fits = omega arith }
 
-array_copy_out_lower : tie.Need-array-copy-out-lower
+array_copy_out_lower : tie.Need-bounds-pairs-k-2
 array_copy_out_lower c = let p = place_small c.before in omega arith
 
-upper_fits : (c : tie.After-upper) → SFits w8 (get_or c.before.before.before.before.pairs.result (2 * c.before.place.result) (pos 0))
+upper_fits : (c : tie.After-upper-1) → SFits w8 (get_or c.pairs-pairs.result (2 * c.place-k.result) (pos 0))
 upper_fits c = search rules
 
-lower_fits : (c : tie.After-lower) → SFits w8 (get_or c.before.before.before.before.before.pairs.result (2 * c.before.before.place.result + 1) (pos 0))
+lower_fits : (c : tie.After-lower-1) → SFits w8 (get_or c.pairs-pairs.result (2 * c.place-k.result + 1) (pos 0))
 lower_fits c = search rules
 
 -- the two bounds, as they are read
-upper_is : (c : tie.After-upper) → to_z w8 (of_z w8 (get_or c.before.before.before.before.pairs.result (2 * c.before.place.result) (pos 0))) ≡ upper_at (read c.before.before.before.before.before)
-upper_is c = to_z-of_z (upper_fits c) ∙ upper_in _ c.before.before.before.before.pairs.ensures (is_placed c.before)
+upper_is : (c : tie.After-upper-1) → to_z w8 (of_z w8 (get_or c.pairs-pairs.result (2 * c.place-k.result) (pos 0))) ≡ upper_at (read c.before.before.before.before.before)
+upper_is c = to_z-of_z (upper_fits c) ∙ upper_in _ c.pairs-pairs.ensures (is_placed c.before)
 
-lower_is : (c : tie.After-lower) → to_z w8 (of_z w8 (get_or c.before.before.before.before.before.pairs.result (2 * c.before.before.place.result + 1) (pos 0))) ≡ lower_at (read c.before.before.before.before.before.before)
-lower_is c = to_z-of_z (lower_fits c) ∙ lower_in _ c.before.before.before.before.before.pairs.ensures (is_placed c.before.before)
+lower_is : (c : tie.After-lower-1) → to_z w8 (of_z w8 (get_or c.pairs-pairs.result (2 * c.place-k.result + 1) (pos 0))) ≡ lower_at (read c.before.before.before.before.before.before)
+lower_is c = to_z-of_z (lower_fits c) ∙ lower_in _ c.pairs-pairs.ensures (is_placed c.before.before)
 
-cast_upper : tie.Need-overflow-cast-upper
+cast_upper : tie.Need-overflow_cast-upper
 cast_upper c = rw (upper_is c) (within_fits w64 tt (upper_within _))
 
-cast_lower : tie.Need-overflow-cast-lower
+cast_lower : tie.Need-overflow_cast-lower
 cast_lower c = rw (lower_is c) (within_fits w64 tt (lower_within _))
 
 returns : tie.Need-returns

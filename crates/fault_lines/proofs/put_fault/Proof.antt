@@ -6,26 +6,26 @@ use borrow.Author.Rules.{rules}
 use Rattle.fault_lines.proofs.put_fault.Statement.{statement}
 use Rattle.fault_lines.proofs.put_fault.Tie as tie
 
-slice_aggregate_spell : tie.Need-slice-aggregate-spell
+slice_aggregate_spell : tie.Need-slice_bounds-spell-end-2
 slice_aggregate_spell c = search rules
 
-spell_requires : tie.Need-spell-requires
+spell_requires : tie.Need-spell-n-requires
 spell_requires c κs = search rules
 
-array_share_prefix_bytes : tie.Need-array-share-prefix-bytes
+array_share_prefix_bytes : tie.Need-slice_bounds-bytes-end
 array_share_prefix_bytes c = search rules
 
-slice_aggregate_put : tie.Need-slice-aggregate-put
+slice_aggregate_put : tie.Need-slice_bounds-put-end
 slice_aggregate_put c = sym (length-take-le _ _ (search rules))
 
 put_requires : tie.Need-put-requires
 put_requires c κs = search rules
 
-same_length : tie.Need-same-length
+same_length : tie.Need-shape_of-out
 same_length c = search rules
 
 returns : tie.Need-returns
-returns c = let e = c.before.before.before.before.before.before.spell.ensures in rw (begun_front _ _ (e.0, e.1.0)) at c.before.before.put.ensures
+returns c = let e = c.spell-n.ensures in rw (begun_front _ _ (e.0, e.1.0)) at c.put.ensures
 
 pub put_fault_spec : {M : Type 1} → statement M
 put_fault_spec =

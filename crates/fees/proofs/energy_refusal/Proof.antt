@@ -5,28 +5,28 @@ use Rattle.fees.specs.Fees.{energy_refusal}
 use Rattle.fees.proofs.energy_refusal.Statement.{statement}
 use Rattle.fees.proofs.energy_refusal.Tie as tie
 
-all_within_requires : tie.Need-all-within-requires
+all_within_requires : tie.Need-all_within-requires
 all_within_requires c κs = search rules
 
-unless_requires : tie.Need-unless-requires
+unless_requires : tie.Need-unless-readings-requires
 unless_requires c κs = search rules
 
-all_within_requires_2 : tie.Need-all-within-requires-2
+all_within_requires_2 : tie.Need-all_within-requires-2
 all_within_requires_2 c κs = search rules
 
-unless_requires_2 : tie.Need-unless-requires-2
+unless_requires_2 : tie.Need-unless-transfer-requires
 unless_requires_2 c κs = search rules
 
-is_price_requires : tie.Need-is-price-requires
+is_price_requires : tie.Need-is_price-requires
 is_price_requires c κs = search rules
 
-is_price_requires_2 : tie.Need-is-price-requires-2
+is_price_requires_2 : tie.Need-is_price-requires-2
 is_price_requires_2 c κs = search rules
 
-unless_requires_3 : tie.Need-unless-requires-3
+unless_requires_3 : tie.Need-unless-money-requires
 unless_requires_3 c κs = search rules
 
-unless_requires_4 : tie.Need-unless-requires-4
+unless_requires_4 : tie.Need-unless-requires
 unless_requires_4 c κs = search rules
 
 returns : tie.Need-returns
@@ -36,16 +36,16 @@ returns c =
     let targets = prices.before.before.before in
     let powers = targets.before.before in
     simp (
-      c.before.unless3.ensures,
-      prices.before.is-price.ensures,
-      prices.is-price2.ensures,
-      prices.before.before.unless2.ensures,
-      targets.all-within2.ensures,
-      targets.before.unless.ensures,
-      powers.all-within.ensures,
-      to_z-of_z powers.before.ranges.discharge,
-      to_z-of_z powers.before.ranges.charge,
-    ) at c.unless4.ensures
+      c.unless-money.ensures,
+      prices.is_price.ensures,
+      prices.is_price-2.ensures,
+      prices.unless-transfer.ensures,
+      targets.all_within-2.ensures,
+      targets.unless-readings.ensures,
+      powers.all_within.ensures,
+      to_z-of_z powers.ranges.discharge,
+      to_z-of_z powers.ranges.charge,
+    ) at c.unless.ensures
 
 pub energy_refusal_spec : {M : Type 1} → statement M
 energy_refusal_spec =

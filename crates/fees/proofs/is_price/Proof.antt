@@ -8,7 +8,7 @@ within_requires : tie.Need-within-requires
 within_requires c κs = search rules
 
 returns : tie.Need-returns
-returns c = rw (to_z-of_z c.before.ranges.z) at c.within.ensures
+returns c = rw (to_z-of_z c.ranges.z) at c.within.ensures
 
 pub is_price_spec : {M : Type 1} → statement M
 is_price_spec = tie.close (tie.spec within_requires returns)

@@ -21,51 +21,51 @@ use Rattle.fees.proofs.power_sum.Tie as tie
 abbrev at : List ℤ → ℕ → ℤ
 at powers i = get_or powers i (pos 0)
 
-abbrev invariant_loop : tie.invariant-loop
+abbrev invariant_loop : tie.invariant-loop-i
 invariant_loop powers sum₀ i₀ sum i = (i ≤ length powers) × (to_z w64 sum ≡ sum_to i (at powers))
 
-abbrev decreases_loop : tie.decreases-loop
+abbrev decreases_loop : tie.decreases-loop-i
 decreases_loop powers sum₀ i₀ sum i = length powers - i
 
-loop_holds : tie.Need-loop-init invariant_loop decreases_loop
+loop_holds : tie.Need-loop-i-init invariant_loop decreases_loop
 loop_holds c = (omega arith, sym (fold_none (pos 0) ◌+ℤ◌ _))
 
-mul_sum : tie.Need-overflow-mul-sum invariant_loop decreases_loop
+mul_sum : tie.Need-offset_bounds-powers-i invariant_loop decreases_loop
 mul_sum c = search rules
 
-shared_slice_copy_out_sum : tie.Need-shared-slice-copy-out-sum invariant_loop decreases_loop
+shared_slice_copy_out_sum : tie.Need-bounds-powers-i invariant_loop decreases_loop
 shared_slice_copy_out_sum c = search rules
 
-at_fits : (c : tie.After-sum invariant_loop decreases_loop) → SFits w64 (at c.before.before.before.args.powers.now c.before.before.loop.i)
+at_fits : (c : tie.After-sum-1 invariant_loop decreases_loop) → SFits w64 (at c.args.powers.now c.loop-i.i)
 at_fits c = search rules
 
-add_sum : tie.Need-overflow-add-sum invariant_loop decreases_loop
+add_sum : tie.Need-overflow_add-sum invariant_loop decreases_loop
 add_sum c =
     let l = c.before.before in
     let s = l.before in
     let powers = s.args.powers.now in
-    let i = l.loop.i in
+    let i = l.loop-i.i in
     let each : (k : ℕ) → k < length powers → Within most_power (at powers k) = λ k h. in_within (all_inside (minus most_power) (pos most_power) powers s.requires.0 k h) in
     let w : Within (most_power * i) (sum_to i (at powers)) = sum_within i (at powers) (λ k h. each k (omega arith)) in
     let x : Within most_power (at powers i) = each i (omega arith) in
-    rw (to_z-of_z (at_fits c), l.loop.invariant.1) (omega signed)
+    rw (to_z-of_z (at_fits c), l.loop-i.invariant.1) (omega signed)
 
-add_i : tie.Need-overflow-add-i invariant_loop decreases_loop
+add_i : tie.Need-overflow_add-i invariant_loop decreases_loop
 add_i c = search rules
 
-loop_less : tie.Need-loop-smaller invariant_loop decreases_loop
+loop_less : tie.Need-loop-i-smaller invariant_loop decreases_loop
 loop_less c = search rules
 
-loop_again : tie.Need-loop-preserved invariant_loop decreases_loop
+loop_again : tie.Need-loop-i-preserved invariant_loop decreases_loop
 loop_again c =
     let l = c.before.before in
-    (omega arith, rw (to_z-of_z (add_sum c), to_z-of_z (at_fits c), l.loop.invariant.1) (sym (fold_step (pos 0) ◌+ℤ◌ _ _)))
+    (omega arith, rw (to_z-of_z (add_sum c), to_z-of_z (at_fits c), l.loop-i.invariant.1) (sym (fold_step (pos 0) ◌+ℤ◌ _ _)))
 
 returns : tie.Need-returns invariant_loop decreases_loop
 returns c =
     let l = c.before in
-    let n : l.loop.i ≡ length l.before.args.powers.now = omega arith in
-    rw n at l.loop.invariant.1
+    let n : l.loop-i.i ≡ length l.args.powers.now = omega arith in
+    rw n at l.loop-i.invariant.1
 
 pub power_sum_spec : {M : Type 1} → statement M
 power_sum_spec =

@@ -17,62 +17,62 @@ use Rattle.fees.specs.Accepted.{EnergyFits}
 use Rattle.fees.proofs.quarter_part.Statement.{statement}
 use Rattle.fees.proofs.quarter_part.Tie as tie
 
-mul_target : tie.Need-overflow-mul-target
+mul_target : tie.Need-offset_bounds-targets-q
 mul_target c = search rules
 
 fits : (c : tie.Start) → EnergyFits c.args.powers.now c.args.targets.now c.args.discharge c.args.charge
 fits c = energy_fits _ _ _ _ c.requires.0
 
-shared_slice_copy_out_target : tie.Need-shared-slice-copy-out-target
+shared_slice_copy_out_target : tie.Need-bounds-targets-q
 shared_slice_copy_out_target c = let n = (fits c).quarters in omega arith
 
-signed_price_requires : tie.Need-signed-price-requires
+signed_price_requires : tie.Need-signed_price-price-requires
 signed_price_requires c κs =
-    let f = c.before.ranges in
+    let f = c.ranges in
     rw (to_z-of_z f.discharge, to_z-of_z f.charge) ((fits c.before).discharging, (fits c.before).charging)
 
-mul_start : tie.Need-overflow-mul-start
+mul_start : tie.Need-overflow_mul-start
 mul_start c = search rules
 
-add_power_sum : tie.Need-overflow-add-power-sum
+add_power_sum : tie.Need-overflow_add-start
 add_power_sum c = search rules
 
-mul_power_sum : tie.Need-overflow-mul-power-sum
+mul_power_sum : tie.Need-offset_bounds-powers-start
 mul_power_sum c = search rules
 
-sub_power_sum : tie.Need-overflow-sub-power-sum
+sub_power_sum : tie.Need-slice_bounds-power_sum-count
 sub_power_sum c = search rules
 
-part_power_sum_start : tie.Need-slice-bounds-power-sum-start
+part_power_sum_start : tie.Need-slice_bounds-power_sum-start
 part_power_sum_start c = search rules
 
-part_power_sum_end : tie.Need-slice-bounds-power-sum-end
+part_power_sum_end : tie.Need-slice_bounds-power_sum-end
 part_power_sum_end c = let n = (fits c.before.before).seconds in search rules
 
-power_sum_requires : tie.Need-power-sum-requires
+power_sum_requires : tie.Need-power_sum-requires
 power_sum_requires c κs =
     let s = c.before.before.before in
     let q = s.args.q in
     let n : q * seconds_of_quarter + seconds_of_quarter - q * seconds_of_quarter ≡ seconds_of_quarter = omega arith in
     rw n (quarter_powers_lem (fits s) q s.requires.1, omega (arith, quarter_length (fits s) q s.requires.1))
 
-sum_is : (c : tie.After-power-sum) →
-    let a = c.before.before.before.before.args in
-    to_z w64 (of_z w64 c.power-sum.result) ≡ sum_of (quarter_powers a.powers.now a.q)
+sum_is : (c : tie.After-power_sum) →
+    let a = c.args in
+    to_z w64 (of_z w64 c.power_sum.result) ≡ sum_of (quarter_powers a.powers.now a.q)
 sum_is c =
-    let q = c.before.before.before.before.args.q in
+    let q = c.args.q in
     let n : q * seconds_of_quarter + seconds_of_quarter - q * seconds_of_quarter ≡ seconds_of_quarter = omega arith in
-    back w64 c.power-sum.type-inv (rw n at c.power-sum.ensures)
+    back w64 c.power_sum.type_inv (rw n at c.power_sum.ensures)
 
-price_is : (c : tie.After-signed-price) →
-    let a = c.before.before.args in
-    to_z w64 (of_z w64 c.signed-price.result) ≡ signed_price a.discharge a.charge (get_or a.targets.now a.q (pos 0))
+price_is : (c : tie.After-signed_price-price) →
+    let a = c.args in
+    to_z w64 (of_z w64 c.signed_price-price.result) ≡ signed_price a.discharge a.charge (get_or a.targets.now a.q (pos 0))
 price_is c =
-    let f = c.before.before.ranges in
-    let t : SFits w64 (get_or c.before.before.args.targets.now c.before.before.args.q (pos 0)) = search rules in
-    back w64 c.signed-price.type-inv (rw (to_z-of_z f.discharge, to_z-of_z f.charge, to_z-of_z t) at c.signed-price.ensures)
+    let f = c.ranges in
+    let t : SFits w64 (get_or c.args.targets.now c.args.q (pos 0)) = search rules in
+    back w64 c.signed_price-price.type_inv (rw (to_z-of_z f.discharge, to_z-of_z f.charge, to_z-of_z t) at c.signed_price-price.ensures)
 
-mul_result : tie.Need-overflow-mul-result
+mul_result : tie.Need-overflow_mul-result
 unfolding quarter_part
 mul_result c =
     let s = c.before.before.before.before in

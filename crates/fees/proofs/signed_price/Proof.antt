@@ -9,33 +9,33 @@ use Rattle.fees.specs.Fees.{signed_price}
 use Rattle.fees.proofs.signed_price.Statement.{statement}
 use Rattle.fees.proofs.signed_price.Tie as tie
 
-not_above : (c : tie.Else1) → lt_z (pos 0) c.before.args.target ≡ false
-not_above c = rw (to_z-of_z c.before.ranges.target) at c.if1.false
+not_above : (c : tie.Else-target-gt0) → lt_z (pos 0) c.args.target ≡ false
+not_above c = rw (to_z-of_z c.ranges.target) at c.if-target-gt0.false
 
-returns : tie.Need-returns
+returns : tie.Need-returns-then-target-gt0
 unfolding signed_price
 returns c =
-    let f = c.before.ranges in
-    rw (rw (to_z-of_z f.target) at c.if1.true, to_z-of_z f.discharge)
+    let f = c.ranges in
+    rw (rw (to_z-of_z f.target) at c.if-target-gt0.true, to_z-of_z f.discharge)
 
-sub_result : tie.Need-overflow-sub-result
+sub_result : tie.Need-overflow_sub-result
 sub_result c =
-    let p = c.before.before.requires in
+    let p = c.requires in
     let d = inside p.0 in
     let b = inside p.1 in
     omega signed
 
-returns_2 : tie.Need-returns-2
+returns_2 : tie.Need-returns-then-target-lt0
 unfolding signed_price
 returns_2 c =
     let s = c.before.before in
     let turned : pos 0 -ℤ s.args.charge ≡ neg_ℤ s.args.charge =
     omega (signed, opposite s.args.charge, difference (pos 0) s.args.charge) in
-    to_z-of_z (sub_result c) ∙ simp (to_z-of_z s.ranges.charge, not_above c.before, rw (to_z-of_z s.ranges.target) at c.if2.true, turned)
+    to_z-of_z (sub_result c) ∙ simp (to_z-of_z s.ranges.charge, not_above c.before, rw (to_z-of_z s.ranges.target) at c.if-target-lt0.true, turned)
 
-returns_3 : tie.Need-returns-3
+returns_3 : tie.Need-returns
 unfolding signed_price
-returns_3 c = rw (not_above c.before, rw (to_z-of_z c.before.before.ranges.target) at c.if2.false)
+returns_3 c = rw (not_above c.before, rw (to_z-of_z c.ranges.target) at c.if-target-lt0.false)
 
 pub signed_price_spec : {M : Type 1} → statement M
 signed_price_spec = tie.close (tie.spec returns sub_result returns_2 returns_3)

@@ -10,35 +10,35 @@ use Rattle.frame.proofs.Frames.{put_three, same_three}
 use Rattle.frame.proofs.put_body.Statement.{statement}
 use Rattle.frame.proofs.put_body.Tie as tie
 
-twos_requires : tie.Need-twos-requires
+twos_requires : tie.Need-twos-bits-requires
 twos_requires c κs = search rules
 
-slice_write_body : tie.Need-slice-write-body
+slice_write_body : tie.Need-bounds-body-0
 slice_write_body c = search rules
 
-slice_write_body_2 : tie.Need-slice-write-body-2
+slice_write_body_2 : tie.Need-bounds-body-1
 slice_write_body_2 c = search rules
 
-slice_write_body_3 : tie.Need-slice-write-body-3
+slice_write_body_3 : tie.Need-bounds-body-2
 slice_write_body_3 c = search rules
 
-sub_put_number : tie.Need-overflow-sub-put-number
+sub_put_number : tie.Need-slice_bounds-put_number-count
 sub_put_number c = simp length-set (omega arith)
 
-part_put_number_start : tie.Need-slice-bounds-put-number-start
+part_put_number_start : tie.Need-slice_bounds-put_number-start
 part_put_number_start c = simp length-set (omega arith)
 
-part_put_number_end : tie.Need-slice-bounds-put-number-end
+part_put_number_end : tie.Need-slice_bounds-put_number-end
 part_put_number_end c = search rules
 
-put_number_requires : tie.Need-put-number-requires
+put_number_requires : tie.Need-put_number-requires
 put_number_requires c κs = search rules
 
-same_length : tie.Need-same-length
+same_length : tie.Need-shape_of-body
 same_length c =
     let p = c.before.before in
     let s = p.before.before.before.before.before.before in
-    same_three s.args.body.now p.put-number.new.1.0 _ _ _ p.put-number.auto.1.0
+    same_three s.args.body.now p.put_number.new.run _ _ _ p.put_number.auto.run
 
 returns : tie.Need-returns
 unfolding body_of
@@ -48,7 +48,7 @@ returns c =
     let s = t.before.before.before.before in
     let z = s.args.entry.amount.0 in
     let b : to_z w64 (of_z w64 z) ≡ z = search rules in
-    rw (p.put-number.ensures, t.twos.ensures, b) (put_three 8 s.args.body.now _ _ _ _ s.requires)
+    rw (p.put_number.ensures, t.twos-bits.ensures, b) (put_three 8 s.args.body.now _ _ _ _ s.requires)
 
 pub put_body_spec : {M : Type 1} → statement M
 put_body_spec =

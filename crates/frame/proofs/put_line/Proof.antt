@@ -5,19 +5,19 @@ use Rattle.frame.proofs.Frames.{close_entry}
 use Rattle.frame.proofs.put_line.Statement.{statement}
 use Rattle.frame.proofs.put_line.Tie as tie
 
-array_borrow_prefix_bytes : tie.Need-array-borrow-prefix-bytes
+array_borrow_prefix_bytes : tie.Need-slice_bounds-bytes-end
 array_borrow_prefix_bytes c = search rules
 
-slice_aggregate_put_body : tie.Need-slice-aggregate-put-body
+slice_aggregate_put_body : tie.Need-slice_bounds-put_body-end
 slice_aggregate_put_body c = search rules
 
-put_body_requires : tie.Need-put-body-requires
+put_body_requires : tie.Need-put_body-requires
 put_body_requires c κs = search rules
 
-close_line_requires : tie.Need-close-line-requires
+close_line_requires : tie.Need-close_line-requires
 close_line_requires c κs = search rules
 
-same_length : tie.Need-same-length
+same_length : tie.Need-shape_of-line
 same_length c = search rules
 
 returns : tie.Need-returns
@@ -25,7 +25,7 @@ returns c =
     let l = c.before.before in
     let b = l.before.before.before in
     let s = b.before.before.before in
-    l.close-line.ensures.1 ∙ close_entry s.args.entry _ _ 0 s.requires b.put-body.ensures
+    l.close_line.ensures.1 ∙ close_entry s.args.entry _ _ 0 s.requires b.put_body.ensures
 
 pub put_line_spec : {M : Type 1} → statement M
 put_line_spec =

@@ -7,38 +7,38 @@ use Rattle.frame.proofs.Frames.{write_refused, write_right, length_refuses, form
 use Rattle.frame.proofs.write_frame.Statement.{statement}
 use Rattle.frame.proofs.write_frame.Tie as tie
 
-returns : tie.Need-returns
+returns : tie.Need-returns-then-line-ne-LINE
 returns c =
-    let a = c.before.before.args in
-    let k = length_refuses a.entry a.line.now c.if1.true in
+    let a = c.args in
+    let k = length_refuses a.entry a.line.now c.if-line-ne-LINE.true in
     (sym k, write_refused a.entry a.line.now (λ z. absurd (omega (arith, k))))
 
-in_form_requires : tie.Need-in-form-requires
+in_form_requires : tie.Need-in_form-requires
 in_form_requires c κs = search rules
 
-returns_2 : tie.Need-returns-2
+returns_2 : tie.Need-returns-then-not-in_form
 returns_2 c =
     let f = c.before in
     let e = f.before in
-    let a = e.before.before.args in
-    let k = form_refuses a.entry a.line.now e.if1.false (sym f.in-form.ensures ∙ not-true _ c.if2.true) in
+    let a = e.args in
+    let k = form_refuses a.entry a.line.now e.if-line-ne-LINE.false (sym f.in_form.ensures ∙ not-true _ c.if-not-in_form.true-raw) in
     (sym k, write_refused a.entry a.line.now (λ z. absurd (omega (arith, k))))
 
-put_line_requires : tie.Need-put-line-requires
+put_line_requires : tie.Need-put_line-requires
 put_line_requires c κs = search rules
 
-same_length : tie.Need-same-length
+same_length : tie.Need-shape_of-line
 same_length c = search rules
 
-returns_3 : tie.Need-returns-3
+returns_3 : tie.Need-returns
 returns_3 c =
     let p = c.before.before in
     let t = p.before.before in
     let f = t.before in
     let e = f.before in
-    let a = e.before.before.args in
-    let z = takes a.entry a.line.now e.if1.false (sym f.in-form.ensures ∙ not-false _ t.if2.false) in
-    (sym z, p.put-line.ensures ∙ write_right a.entry a.line.now z)
+    let a = e.args in
+    let z = takes a.entry a.line.now e.if-line-ne-LINE.false (sym f.in_form.ensures ∙ not-false _ t.if-not-in_form.false-raw) in
+    (sym z, p.put_line.ensures ∙ write_right a.entry a.line.now z)
 
 pub write_frame_spec : {M : Type 1} → statement M
 write_frame_spec =

@@ -12,66 +12,53 @@ use borrow.Author.Rules.{rules}
 use Rattle.frame_lines.proofs.put_alone.Statement.{statement}
 use Rattle.frame_lines.proofs.put_alone.Tie as tie
 
-slice_aggregate_put_decimal : tie.Need-slice-aggregate-put-decimal
+slice_aggregate_put_decimal : tie.Need-slice_bounds-put_decimal-end
 slice_aggregate_put_decimal c = search rules
 
-put_decimal_requires : tie.Need-put-decimal-requires
+put_decimal_requires : tie.Need-put_decimal-a-requires
 put_decimal_requires c κs = search rules
 
-slice_aggregate_put : tie.Need-slice-aggregate-put
+slice_aggregate_put : tie.Need-slice_bounds-put-end
 slice_aggregate_put c = search rules
 
-slice_aggregate_put_2 : tie.Need-slice-aggregate-put-2
-slice_aggregate_put_2 c = search rules
-
-put_requires : tie.Need-put-requires
+put_requires : tie.Need-put-b-requires
 put_requires c κs = search rules
 
 -- the number has at most three digits
 few : (c : tie.Start) → length (decimal_of c.args.k) ≤ 3
 few c = length_decimal 2 c.args.k (omega (arith, c.ranges.k))
 
-begun : (c : tie.After-put) → Begun (replicate 4 0) (alone_text c.before.before.before.before.before.before.before.args.k) c.put.new.0 c.put.result
+begun : (c : tie.After-put-b) → Begun (replicate 4 0) (alone_text c.args.k) c.put-b.new.out c.put-b.result
 begun c =
-    let p = c.before.before.before.before in
-    let s = p.before.before.before in
-    let f = few s in
-    let one = begin (replicate 4 0) _ _ (decimal_of s.args.k) (omega arith) p.put-decimal.ensures.0 p.put-decimal.ensures.1 in
-    more (replicate 4 0) _ _ _ _ (decimal_of s.args.k) end_of_line (omega arith) one c.put.ensures.0 c.put.ensures.1
+    let p = c in
+    let s = p in
+    let f = few s.before.before.before.before.before.before.before.before in
+    let one = begin (replicate 4 0) _ _ (decimal_of s.args.k) (omega arith) p.put_decimal-a.ensures.0 p.put_decimal-a.ensures.1 in
+    more (replicate 4 0) _ _ _ _ (decimal_of s.args.k) end_of_line (omega arith) one c.put-b.ensures.0 c.put-b.ensures.1
 
-short : (c : tie.After-put) → c.put.result ≤ length c.put.new.0
+short : (c : tie.After-put-b) → c.put-b.result ≤ length c.put-b.new.out
 short c =
-    let s = c.before.before.before.before.before.before.before in
-    let f = few s in
-    let room : length c.put.new.0 ≡ 4 = search rules in
+    let s = c in
+    let f = few s.before.before.before.before.before.before.before.before in
+    let room : length c.put-b.new.out ≡ 4 = search rules in
     omega (arith, (begun c).0, length-append (decimal_of s.args.k) end_of_line)
 
-array_share_prefix_line : tie.Need-array-share-prefix-line
+array_share_prefix_line : tie.Need-slice_bounds-line-end
 array_share_prefix_line c = short c.before.before
 
-slice_aggregate_put_3 : tie.Need-slice-aggregate-put-3
-slice_aggregate_put_3 c = sym (length-take-le _ _ (short c.before.before.before))
+slice_aggregate_put_2 : tie.Need-slice_bounds-put-end-3
+slice_aggregate_put_2 c = sym (length-take-le _ _ (short c.before.before.before))
 
-put_requires_2 : tie.Need-put-requires-2
+put_requires_2 : tie.Need-put-requires
 put_requires_2 c κs = search rules
 
-same_length : tie.Need-same-length
+same_length : tie.Need-shape_of-out
 same_length c = search rules
 
 returns : tie.Need-returns
-returns c = let z = c.before.before in rw (begun_front _ _ (begun z.before.before.before.before)) at z.put2.ensures
+returns c = let z = c in rw (begun_front _ _ (begun z.before.before.before.before.before.before)) at z.put.ensures
 
 pub put_alone_spec : {M : Type 1} → statement M
 put_alone_spec =
     tie.close
-    (tie.spec
-    slice_aggregate_put_decimal
-    put_decimal_requires
-    slice_aggregate_put
-    slice_aggregate_put_2
-    put_requires
-    array_share_prefix_line
-    slice_aggregate_put_3
-    put_requires_2
-    same_length
-    returns)
+    (tie.spec slice_aggregate_put_decimal put_decimal_requires slice_aggregate_put put_requires array_share_prefix_line slice_aggregate_put_2 put_requires_2 same_length returns)

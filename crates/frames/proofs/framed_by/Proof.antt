@@ -14,62 +14,62 @@ within_requires c κs = search rules
 within_requires_2 : tie.Need-within-requires-2
 within_requires_2 c κs = search rules
 
-unless_requires : tie.Need-unless-requires
+unless_requires : tie.Need-unless-place-requires
 unless_requires c κs = search rules
 
 within_requires_3 : tie.Need-within-requires-3
 within_requires_3 c κs = search rules
 
-unless_requires_2 : tie.Need-unless-requires-2
+unless_requires_2 : tie.Need-unless-form-requires
 unless_requires_2 c κs = search rules
 
-or_else_requires : tie.Need-or-else-requires
+or_else_requires : tie.Need-or_else-k-requires
 or_else_requires c κs = search rules
 
 -- the number of the refusal
-number : (c : tie.After-or-else) → let a = c.before.before.before.before.before.before.args in or_else a.before (entry_refusal a.kind a.day a.hour) ≡ c.or_else.result
+number : (c : tie.After-or_else-k) → let a = c.args in or_else a.before (entry_refusal a.kind a.day a.hour) ≡ c.or_else-k.result
 number c =
-    let v = c.before in
-    let w = v.before in
-    let u = w.before in
-    let f = u.before.before.before.ranges in
-    sym (rw (v.unless2.ensures, w.within3.ensures, u.unless.ensures, u.before.within2.ensures, u.before.before.within.ensures, to_z-of_z f.kind, to_z-of_z f.day, to_z-of_z f.hour) at c.or_else.ensures)
+    let v = c in
+    let w = v in
+    let u = w in
+    let f = u.ranges in
+    sym (rw (v.unless-form.ensures, w.within-3.ensures, u.unless-place.ensures, u.within-2.ensures, u.within.ensures, to_z-of_z f.kind, to_z-of_z f.day, to_z-of_z f.hour) at c.or_else-k.ensures)
 
-no_entry_requires : tie.Need-no-entry-requires
+no_entry_requires : tie.Need-no_entry-requires
 no_entry_requires c κs = search rules
 
 single_requires : tie.Need-single-requires
 single_requires c κs = search rules
 
-returns : tie.Need-returns
+returns : tie.Need-returns-then-k-ne0
 unfolding framed_by
 returns c =
-    let e = c.before in
-    let t = e.before in
-    c.single.ensures ∙ rw (number t.before, ne_eqb _ _ t.if1.true, e.no-entry.ensures) refl
+    let e = c in
+    let t = e in
+    c.single.ensures ∙ rw (number t.before.before.before, ne_eqb _ _ t.if-k-ne0.true, e.no_entry.ensures) refl
 
-byte_of_requires : tie.Need-byte-of-requires
+byte_of_requires : tie.Need-byte_of-requires
 byte_of_requires c κs = search rules
 
-byte_of_requires_2 : tie.Need-byte-of-requires-2
+byte_of_requires_2 : tie.Need-byte_of-requires-2
 byte_of_requires_2 c κs = search rules
 
-byte_of_requires_3 : tie.Need-byte-of-requires-3
+byte_of_requires_3 : tie.Need-byte_of-requires-3
 byte_of_requires_3 c κs = search rules
 
 single_requires_2 : tie.Need-single-requires-2
 single_requires_2 c κs = search rules
 
-returns_2 : tie.Need-returns-2
+returns_2 : tie.Need-returns
 unfolding framed_by
 returns_2 c =
-    let z = c.before in
-    let y = z.before in
-    let x = y.before in
-    let l = x.before in
-    let f = l.before.before.before.before.before.before.before.ranges in
-    c.single2.ensures
-    ∙ rw (number l.before, l.if1.false, to_z-of_z f.amount, z.byte-of3.ensures, y.byte-of2.ensures, x.byte_of.ensures, to_z-of_z f.kind, to_z-of_z f.day, to_z-of_z f.hour)
+    let z = c in
+    let y = z in
+    let x = y in
+    let l = x in
+    let f = l.ranges in
+    c.single-2.ensures
+    ∙ rw (number l.before.before.before.before.before, l.if-k-ne0.false, to_z-of_z f.amount, z.byte_of-3.ensures, y.byte_of-2.ensures, x.byte_of.ensures, to_z-of_z f.kind, to_z-of_z f.day, to_z-of_z f.hour)
 
 pub framed_by_spec : {M : Type 1} → statement M
 framed_by_spec =

@@ -7,19 +7,19 @@ use borrow.Author.Rules.{rules}
 use Rattle.head.proofs.fits.Statement.{statement}
 use Rattle.head.proofs.fits.Tie as tie
 
-is_days_requires : tie.Need-is-days-requires
+is_days_requires : tie.Need-is_days-requires
 is_days_requires c κs = search rules
 
-loss_fee_refusal_requires : tie.Need-loss-fee-refusal-requires
+loss_fee_refusal_requires : tie.Need-loss_fee_refusal-requires
 loss_fee_refusal_requires c κs = search rules
 
-loss_fee_refusal_requires_2 : tie.Need-loss-fee-refusal-requires-2
+loss_fee_refusal_requires_2 : tie.Need-loss_fee_refusal-requires-2
 loss_fee_refusal_requires_2 c κs = search rules
 
 returns : tie.Need-returns
 returns c =
     let b = c.before in
-    ap₂ ◌&&◌ (ap₂ ◌&&◌ b.before.is-days.ensures (ap (λ (k : ℕ). eqb k 0) b.loss-fee-refusal.ensures)) (ap (λ (k : ℕ). eqb k 0) c.loss-fee-refusal2.ensures)
+    ap₂ ◌&&◌ (ap₂ ◌&&◌ b.is_days.ensures (ap (λ (k : ℕ). eqb k 0) b.loss_fee_refusal.ensures)) (ap (λ (k : ℕ). eqb k 0) c.loss_fee_refusal-2.ensures)
 
 pub fits_spec : {M : Type 1} → statement M
 fits_spec = tie.close (tie.spec is_days_requires loss_fee_refusal_requires loss_fee_refusal_requires_2 returns)

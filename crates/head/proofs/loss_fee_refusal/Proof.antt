@@ -12,13 +12,13 @@ within_requires c κs = search rules
 unless_requires : tie.Need-unless-requires
 unless_requires c κs = search rules
 
-fits : (c : tie.After-struct-told) → SFits w64 c.before.args.fee.0
+fits : (c : tie.After-struct_told-1) → SFits w64 c.args.fee.0
 fits c = search rules
 
 returns : tie.Need-returns
 returns c =
-    let f : SFits w64 c.before.before.before.args.fee.0 = fits c.before.before in
-    simp (c.before.within.ensures, to_z-of_z f) at c.unless.ensures
+    let f : SFits w64 c.args.fee.0 = fits c.before.before in
+    simp (c.within.ensures, to_z-of_z f) at c.unless.ensures
 
 pub loss_fee_refusal_spec : {M : Type 1} → statement M
 loss_fee_refusal_spec = tie.close (tie.spec within_requires unless_requires returns)

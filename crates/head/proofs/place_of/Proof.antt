@@ -11,20 +11,20 @@ use Rattle.history.proofs.Days.{hours_even}
 use Rattle.head.proofs.place_of.Statement.{statement}
 use Rattle.head.proofs.place_of.Tie as tie
 
-sub_places : tie.Need-overflow-sub-places
-sub_places c = leb-true 1 _ (and_both (leb 1 c.before.args.day) (ltb c.before.args.hour hours_of_day) c.if1.true).0
+sub_places : tie.Need-overflow_sub-day
+sub_places c = leb-true 1 _ (and_both (leb 1 c.args.day) (ltb c.args.hour hours_of_day) c.if-day-at.true).0
 
 places_requires : tie.Need-places-requires
 places_requires c κs = search rules
 
-add_result : tie.Need-overflow-add-result
-add_result c = omega (arith, c.places.ensures, hours_even hours_of_day (c.before.before.args.day - 1))
+add_result : tie.Need-overflow_add-result
+add_result c = omega (arith, c.places.ensures, hours_even hours_of_day (c.args.day - 1))
 
-returns : tie.Need-returns
-returns c = rw c.before.if1.true (ap (λ n. n + c.before.before.args.hour) c.places.ensures)
+returns : tie.Need-returns-then-day-at
+returns c = rw c.if-day-at.true (ap (λ n. n + c.args.hour) c.places.ensures)
 
-returns_2 : tie.Need-returns-2
-returns_2 c = rw c.if1.false
+returns_2 : tie.Need-returns
+returns_2 c = rw c.if-day-at.false
 
 pub place_of_spec : {M : Type 1} → statement M
 place_of_spec = tie.close (tie.spec sub_places places_requires add_result returns returns_2)

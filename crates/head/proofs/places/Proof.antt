@@ -6,7 +6,7 @@ use Rattle.history.proofs.Days.{hours_even}
 use Rattle.head.proofs.places.Statement.{statement}
 use Rattle.head.proofs.places.Tie as tie
 
-mul_result : tie.Need-overflow-mul-result
+mul_result : tie.Need-overflow_mul-result
 mul_result c = search rules
 
 returns : tie.Need-returns

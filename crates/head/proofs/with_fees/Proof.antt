@@ -10,33 +10,33 @@ use borrow.Author.Rules.{rules}
 use Rattle.head.proofs.with_fees.Statement.{statement}
 use Rattle.head.proofs.with_fees.Tie as tie
 
-loss_fee_refusal_requires : tie.Need-loss-fee-refusal-requires
+loss_fee_refusal_requires : tie.Need-loss_fee_refusal-requires
 loss_fee_refusal_requires c κs = search rules
 
-unless_requires : tie.Need-unless-requires
+unless_requires : tie.Need-unless-open-requires
 unless_requires c κs = search rules
 
 fits_requires : tie.Need-fits-requires
 fits_requires c κs = search rules
 
-unless_requires_2 : tie.Need-unless-requires-2
+unless_requires_2 : tie.Need-unless-k-requires
 unless_requires_2 c κs = search rules
 
-number : (c : tie.After-unless2) → let a = c.before.before.before.before.before.args in c.unless2.result ≡ head_refusal a.head (Call.loss_fee basic a.set.0)
+number : (c : tie.After-unless-k) → let a = c.args in c.unless-k.result ≡ head_refusal a.head (Call.loss_fee basic a.set.0)
 unfolding ruling_on
 number c =
     let h = c.before in
     let u = h.before in
-    rw (own_last (loss_fee_refusal c.before.before.before.before.before.args.set.0))
-    (simp (h.fits2.ensures, u.unless.ensures, u.before.loss-fee-refusal.ensures) at c.unless2.ensures)
+    rw (own_last (loss_fee_refusal c.args.set.0))
+    (simp (h.fits.ensures, u.unless-open.ensures, u.loss_fee_refusal.ensures) at c.unless-k.ensures)
 
-returns : tie.Need-returns
+returns : tie.Need-returns-then-k-eq0
 unfolding with_fees
-returns c = let n = number c.before in rw (n, eq-eqb _ 0 (sym n ∙ c.if1.true))
+returns c = let n = number c.before in rw (n, eq-eqb _ 0 (sym n ∙ c.if-k-eq0.true))
 
-returns_2 : tie.Need-returns-2
+returns_2 : tie.Need-returns
 unfolding with_fees
-returns_2 c = let n = number c.before in rw (n, ne_eqb _ 0 (λ z. c.if1.false (n ∙ z)))
+returns_2 c = let n = number c.before in rw (n, ne_eqb _ 0 (λ z. c.if-k-eq0.false (n ∙ z)))
 
 pub with_fees_spec : {M : Type 1} → statement M
 with_fees_spec =

@@ -9,7 +9,7 @@ use Rattle.hour.proofs.capacity_fits.Tie as tie
 within_requires : tie.Need-within-requires
 within_requires c κs = search rules
 
-fits : (c : tie.After-struct-told) → SFits w64 c.before.before.args.terms.capacity.0
+fits : (c : tie.After-struct_told-1) → SFits w64 c.args.terms.capacity.0
 fits c = search rules
 
 returns : tie.Need-returns

@@ -6,11 +6,11 @@ use borrow.Author.Rules.{rules}
 use Rattle.hour.proofs.fee_of.Statement.{statement}
 use Rattle.hour.proofs.fee_of.Tie as tie
 
-fee_requires : tie.Need-fee-requires
+fee_requires : tie.Need-fee-charged-requires
 fee_requires c κs = search rules
 
 returns : tie.Need-returns
-returns c = let s = c.before.before in ap (λ (x : Charged). x.dollars) (rw (to_z-of_z s.ranges.price) at c.before.fee.ensures)
+returns c = let s = c in ap (λ (x : Charged). x.dollars) (rw (to_z-of_z s.ranges.price) at c.fee-charged.ensures)
 
 pub fee_of_spec : {M : Type 1} → statement M
 fee_of_spec = tie.close (tie.spec fee_requires returns)

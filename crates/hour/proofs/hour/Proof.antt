@@ -10,36 +10,36 @@ use Rattle.hour.proofs.hour.Tie as tie
 abbrev hour : tie.Start → WholeHour
 hour s = let a = s.args in edreg_hour a.powers.now a.frequencies.now a.terms a.reference a.shift a.thresholds.now a.factors.now a.earlier.now
 
-shift_refusal_requires : tie.Need-shift-refusal-requires
+shift_refusal_requires : tie.Need-shift_refusal-k-requires
 shift_refusal_requires c κs = search rules
 
-refused_hour_requires : tie.Need-refused-hour-requires
+refused_hour_requires : tie.Need-refused_hour-requires
 refused_hour_requires c κs = search rules
 
-returns : tie.Need-returns
+returns : tie.Need-returns-then-k-ne0
 returns c =
-    let t = c.before in
-    let s = t.before.before.before.before in
-    terms_refused (hour s) s.args.scores.now t.before.shift-refusal.ensures t.if1.true c.refused-hour.ensures
+    let t = c in
+    let s = t in
+    terms_refused (hour s.before.before.before.before.before) s.args.scores.now t.shift_refusal-k.ensures t.if-k-ne0.true c.refused_hour.ensures
 
 -- terms that are let through
-through : (c : tie.Else1) → let s = c.before.before.before.before in of_terms (hour s) (length s.args.scores.now) ≡ 0
-through c = sym c.before.shift-refusal.ensures ∙ c.if1.false
+through : (c : tie.Else-k-ne0) → let s = c in of_terms (hour s.before.before.before.before) (length s.args.scores.now) ≡ 0
+through c = sym c.shift_refusal-k.ensures ∙ c.if-k-ne0.false
 
 shifted_requires : tie.Need-shifted-requires
-shifted_requires c κs = let e = c.before in let s = e.before.before.before.before in (terms_fit (hour s) (length s.args.scores.now) (through e)).targets
+shifted_requires c κs = let e = c in let s = e in (terms_fit (hour s.before.before.before.before.before) (length s.args.scores.now) (through e.before)).targets
 
-same_length : tie.Need-same-length
+same_length : tie.Need-shape_of-scores
 same_length c = search rules
 
-returns_2 : tie.Need-returns-2
+returns_2 : tie.Need-returns
 unfolding transfers_of
 returns_2 c =
-    let w = c.before.before in
-    let e = w.before.before in
-    let s = e.before.before.before.before in
+    let w = c in
+    let e = w in
+    let s = e in
     let run = s.args.scores.now in
-    (w.shifted.ensures.0 ∙ worked_is (hour s) (length run) (through e), w.shifted.ensures.1 ∙ left_is (hour s) run (through e))
+    (w.shifted.ensures.0 ∙ worked_is (hour s.before.before.before.before.before.before.before.before) (length run) (through e.before.before.before.before), w.shifted.ensures.1 ∙ left_is (hour s.before.before.before.before.before.before.before.before) run (through e.before.before.before.before))
 
 pub hour_spec : {M : Type 1} → statement M
 hour_spec =

@@ -12,8 +12,8 @@ within_requires_2 c κs = search rules
 
 returns : tie.Need-returns
 returns c =
-    let f = c.before.before.ranges in
-    rw (rw (to_z-of_z f.first) at c.before.within.ensures, rw (to_z-of_z f.second) at c.within2.ensures)
+    let f = c.ranges in
+    rw (rw (to_z-of_z f.first) at c.within.ensures, rw (to_z-of_z f.second) at c.within-2.ensures)
 
 pub prices_fit_spec : {M : Type 1} → statement M
 prices_fit_spec = tie.close (tie.spec within_requires within_requires_2 returns)

@@ -5,11 +5,11 @@ use borrow.Author.Rules.{rules}
 use Rattle.hour.proofs.rate_of.Statement.{statement}
 use Rattle.hour.proofs.rate_of.Tie as tie
 
-hourly_rate_requires : tie.Need-hourly-rate-requires
+hourly_rate_requires : tie.Need-hourly_rate-rated-requires
 hourly_rate_requires c κs = search rules
 
 returns : tie.Need-returns
-returns c = ap (λ (x : Rated). x.rate) c.hourly-rate.ensures
+returns c = ap (λ (x : Rated). x.rate) c.hourly_rate-rated.ensures
 
 pub rate_of_spec : {M : Type 1} → statement M
 rate_of_spec = tie.close (tie.spec hourly_rate_requires returns)

@@ -14,59 +14,59 @@ use Rattle.hour.proofs.Laws.{amount_fits}
 use Rattle.hour.proofs.settled.Statement.{statement}
 use Rattle.hour.proofs.settled.Tie as tie
 
-factor_of_requires : tie.Need-factor-of-requires
+factor_of_requires : tie.Need-factor_of-factor-requires
 factor_of_requires c κs = search rules
 
-fee_of_requires : tie.Need-fee-of-requires
+fee_of_requires : tie.Need-fee_of-capacity-requires
 fee_of_requires c κs = search rules
 
-fee_of_requires_2 : tie.Need-fee-of-requires-2
+fee_of_requires_2 : tie.Need-fee_of-performance-requires
 fee_of_requires_2 c κs = search rules
 
-quality_of_requires : tie.Need-quality-of-requires
+quality_of_requires : tie.Need-quality_of-quality-requires
 quality_of_requires c κs = search rules
 
 plus_requires : tie.Need-plus-requires
 plus_requires c κs =
-    let s = c.before.before.before.before.before.before in
-    rw c.quality-of.ensures (amount_fits _ _ _ s.args.energy s.requires)
+    let s = c in
+    rw c.quality_of-quality.ensures (amount_fits _ _ _ s.args.energy s.requires)
 
-granted_hour_requires : tie.Need-granted-hour-requires
+granted_hour_requires : tie.Need-granted_hour-requires
 granted_hour_requires c κs = search rules
 
 -- each part, by its own call
-factor_is : (c : tie.After-factor-of) → let a = c.before.args in c.factor-of.result ≡ (factor_answer a.thresholds.now a.factors.now a.rate).factor
-factor_is c = let a = c.before.args in c.factor-of.ensures
+factor_is : (c : tie.After-factor_of-factor) → let a = c.args in c.factor_of-factor.result ≡ (factor_answer a.thresholds.now a.factors.now a.rate).factor
+factor_is c = let a = c.args in c.factor_of-factor.ensures
 
-capacity_is : (c : tie.After-fee-of) → let t = c.before.before.before.args.terms in c.fee-of.result ≡ (fee_answer t.clearing t.capacity).dollars
+capacity_is : (c : tie.After-fee_of-capacity) → let t = c.args.terms in c.fee_of-capacity.result ≡ (fee_answer t.clearing t.capacity).dollars
 capacity_is c =
-    let t = c.before.before.before.args.terms in
+    let t = c.args.terms in
     let f : SFits w64 t.clearing = search rules in
-    rw (to_z-of_z f) at c.fee-of.ensures
+    rw (to_z-of_z f) at c.fee_of-capacity.ensures
 
-performance_is : (c : tie.After-fee-of2) → let t = c.before.before.before.before.before.args.terms in c.fee-of2.result ≡ (fee_answer t.performance t.capacity).dollars
+performance_is : (c : tie.After-fee_of-performance) → let t = c.args.terms in c.fee_of-performance.result ≡ (fee_answer t.performance t.capacity).dollars
 performance_is c =
-    let t = c.before.before.before.before.before.args.terms in
+    let t = c.args.terms in
     let f : SFits w64 t.performance = search rules in
-    rw (to_z-of_z f) at c.fee-of2.ensures
+    rw (to_z-of_z f) at c.fee_of-performance.ensures
 
 returns : tie.Need-returns
 unfolding settled_of
 returns c =
-    let p = c.before in
-    let q = p.before in
-    let g = q.before in
-    let f = g.before.before in
-    let k = f.before.before in
-    let a = k.before.args in
+    let p = c in
+    let q = p in
+    let g = q in
+    let f = g in
+    let k = f in
+    let a = k.args in
     let t = a.terms in
-    let capacity = capacity_is f in
-    let performance = performance_is g in
-    let tenths = back w64 k.factor-of.type-inv (factor_is k) in
-    let quality : q.quality-of.result ≡ (quality_answer (fee_answer t.clearing t.capacity).dollars (fee_answer t.performance t.capacity).dollars (factor_answer a.thresholds.now a.factors.now a.rate).factor).dollars =
-    q.quality-of.ensures ∙ (λ i. (quality_answer (capacity i) (performance i) (tenths i)).dollars) in
+    let capacity = capacity_is f.before.before.before.before.before.before in
+    let performance = performance_is g.before.before.before in
+    let tenths = back w64 k.factor_of-factor.type_inv (factor_is k.before.before.before.before.before.before.before.before.before) in
+    let quality : q.quality_of-quality.result ≡ (quality_answer (fee_answer t.clearing t.capacity).dollars (fee_answer t.performance t.capacity).dollars (factor_answer a.thresholds.now a.factors.now a.rate).factor).dollars =
+    q.quality_of-quality.ensures ∙ (λ i. (quality_answer (capacity i) (performance i) (tenths i)).dollars) in
     let amount = p.plus.ensures ∙ (λ i. dollars ((quality i).0 +ℤ a.energy.0)) in
-    c.granted-hour.ensures ∙ (λ i. granted_hour a.rate (tenths i) (capacity i) (performance i) (quality i) a.energy (amount i))
+    c.granted_hour.ensures ∙ (λ i. granted_hour a.rate (tenths i) (capacity i) (performance i) (quality i) a.energy (amount i))
 
 pub settled_spec : {M : Type 1} → statement M
 settled_spec =

@@ -6,27 +6,27 @@ use Rattle.hour.specs.Hour.{refused_hour, settled_at}
 use Rattle.hour.proofs.settled_at.Statement.{statement}
 use Rattle.hour.proofs.settled_at.Tie as tie
 
-at_refusal_requires : tie.Need-at-refusal-requires
+at_refusal_requires : tie.Need-at_refusal-k-requires
 at_refusal_requires c κs = search rules
 
-refused_hour_requires : tie.Need-refused-hour-requires
+refused_hour_requires : tie.Need-refused_hour-requires
 refused_hour_requires c κs = search rules
 
-returns : tie.Need-returns
+returns : tie.Need-returns-then-k-ne0
 unfolding settled_at
 returns c =
-    let t = c.before in
-    let n = t.before.at-refusal.ensures in
-    c.refused-hour.ensures ∙ ap refused_hour n ∙ sym (kept_old _ _ (λ z. t.if1.true (n ∙ z)))
+    let t = c in
+    let n = t.at_refusal-k.ensures in
+    c.refused_hour.ensures ∙ ap refused_hour n ∙ sym (kept_old _ _ (λ z. t.if-k-ne0.true (n ∙ z)))
 
 settled_requires : tie.Need-settled-requires
 settled_requires c κs = search rules
 
-returns_2 : tie.Need-returns-2
+returns_2 : tie.Need-returns
 unfolding settled_at
 returns_2 c =
-    let e = c.before in
-    c.settled.ensures ∙ sym (kept_new _ _ (sym e.before.at-refusal.ensures ∙ e.if1.false))
+    let e = c in
+    c.settled.ensures ∙ sym (kept_new _ _ (sym e.at_refusal-k.ensures ∙ e.if-k-ne0.false))
 
 pub settled_at_spec : {M : Type 1} → statement M
 settled_at_spec =

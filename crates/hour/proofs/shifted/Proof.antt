@@ -16,48 +16,48 @@ use Rattle.hour.specs.Inner.{worked_of, worked_left}
 use Rattle.hour.proofs.shifted.Statement.{statement}
 use Rattle.hour.proofs.shifted.Tie as tie
 
-slice_aggregate_plan : tie.Need-slice-aggregate-plan
+slice_aggregate_plan : tie.Need-slice_bounds-plan-end-2
 slice_aggregate_plan c = search rules
 
 plan_requires : tie.Need-plan-requires
 plan_requires c κs = search rules
 
-energy_of_requires : tie.Need-energy-of-requires
+energy_of_requires : tie.Need-energy_of-energy-requires
 energy_of_requires c κs = search rules
 
-slice_aggregate_worked : tie.Need-slice-aggregate-worked
+slice_aggregate_worked : tie.Need-slice_bounds-worked-end
 slice_aggregate_worked c = search rules
 
 worked_requires : tie.Need-worked-requires
-worked_requires c κs = rw c.before.before.energy-of.ensures (energy_within _ _ _ _)
+worked_requires c κs = rw c.energy_of-energy.ensures (energy_within _ _ _ _)
 
-same_length : tie.Need-same-length
+same_length : tie.Need-shape_of-scores
 same_length c = search rules
 
 -- the plan, and the energy service fee
-planned : (c : tie.After-plan) → c.plan.new.1.0 ≡ plan_of c.before.before.before.before.before.before.before.args.t5.targets
+planned : (c : tie.After-plan) → c.plan.new.seconds ≡ plan_of c.args.shift.targets
 planned c =
-    let s = c.before.before.before.before.before.before.before in
-    let t = s.args.t5.targets in
+    let s = c in
+    let t = s.args.shift.targets in
     let five : length t ≡ 5 = search rules in
     c.plan.ensures.1 ∙ plan_granted t (replicate seconds_of_hour (pos 0)) (record { five = five; long = refl; inside = s.requires })
 
-discharge_fits : (c : tie.After-struct-told2) → SFits w64 c.before.before.before.before.before.before.before.before.before.before.args.t5.discharge
+discharge_fits : (c : tie.After-struct_told-2-1) → SFits w64 c.args.shift.discharge
 discharge_fits c = search rules
 
-charge_fits : (c : tie.After-struct-told2) → SFits w64 c.before.before.before.before.before.before.before.before.before.before.args.t5.charge
+charge_fits : (c : tie.After-struct_told-2-1) → SFits w64 c.args.shift.charge
 charge_fits c = search rules
 
 returns : tie.Need-returns
 returns c =
-    let w = c.before.before in
-    let e = w.before.before.before in
-    let t = e.before.before.before.before in
-    let p = t.before.before.before in
-    let a = p.before.before.before.before.before.before.before.args in
-    let energy : e.energy-of.result ≡ energy_of a.powers.now (edreg a.t5) = rw (to_z-of_z (discharge_fits t), to_z-of_z (charge_fits t)) at e.energy-of.ensures in (
-      w.worked.ensures.0 ∙ (λ i. worked_of a.powers.now a.frequencies.now (planned p i) a.terms a.reference a.thresholds.now a.factors.now a.earlier.now (energy i) (length a.scores.now)),
-      w.worked.ensures.1 ∙ ap (λ (plan : List ℤ). worked_left a.powers.now a.frequencies.now plan a.terms.capacity a.reference a.earlier.now a.scores.now) (planned p),
+    let w = c in
+    let e = w in
+    let t = e in
+    let p = t in
+    let a = p.args in
+    let energy : e.energy_of-energy.result ≡ energy_of a.powers.now (edreg a.shift) = rw (to_z-of_z (discharge_fits t.before.before.before.before.before.before.before.before), to_z-of_z (charge_fits t.before.before.before.before.before.before.before.before)) at e.energy_of-energy.ensures in (
+      w.worked.ensures.0 ∙ (λ i. worked_of a.powers.now a.frequencies.now (planned p.before.before.before.before.before.before.before.before.before.before.before i) a.terms a.reference a.thresholds.now a.factors.now a.earlier.now (energy i) (length a.scores.now)),
+      w.worked.ensures.1 ∙ ap (λ (plan : List ℤ). worked_left a.powers.now a.frequencies.now plan a.terms.capacity a.reference a.earlier.now a.scores.now) (planned p.before.before.before.before.before.before.before.before.before.before.before),
     )
 
 pub shifted_spec : {M : Type 1} → statement M

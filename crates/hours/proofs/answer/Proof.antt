@@ -9,10 +9,10 @@ use Rattle.hours.proofs.HourLaws.{AnswersNone, answers_none, twelve_is}
 use Rattle.hours.proofs.answer.Statement.{statement}
 use Rattle.hours.proofs.answer.Tie as tie
 
-settle_asked_requires : tie.Need-settle-asked-requires
+settle_asked_requires : tie.Need-settle_asked-asked-requires
 settle_asked_requires c κs = search rules
 
-state_fields_requires : tie.Need-state-fields-requires
+state_fields_requires : tie.Need-state_fields-requires
 state_fields_requires c κs = search rules
 
 shown_requires : tie.Need-shown-requires
@@ -21,13 +21,13 @@ shown_requires c κs = search rules
 returns : tie.Need-returns
 unfolding hour_reply
 returns c =
-    let f = c.before in
-    let w = f.before.before in
-    let r = w.settle-asked in
-    let a = w.before.before.args in
+    let f = c in
+    let w = f in
+    let r = w.settle_asked-asked in
+    let a = w.args in
     let n = hour_numbers a.terms a.bands.now a.counted a.earlier.now a.readings.now in
     let none = subst (λ (x : Settled). AnswersNone a.hour x.state) (sym r.ensures.0) (answers_none a.hour n) in
-    c.shown.ensures ∙ ap (in_twelve a.hour r.result.hour) f.state-fields.ensures ∙ twelve_is a.hour r.result none ∙ ap (λ (x : Settled). boxed (hour_shown a.hour x)) r.ensures.0
+    c.shown.ensures ∙ ap (in_twelve a.hour r.result.hour) f.state_fields.ensures ∙ twelve_is a.hour r.result none ∙ ap (λ (x : Settled). boxed (hour_shown a.hour x)) r.ensures.0
 
 pub answer_spec : {M : Type 1} → statement M
 answer_spec = tie.close (tie.spec settle_asked_requires state_fields_requires shown_requires returns)

@@ -4,11 +4,11 @@ use Rattle.hours.specs.Inner.{pairs_in}
 use Rattle.hours.proofs.pairs_in.Statement.{statement}
 use Rattle.hours.proofs.pairs_in.Tie as tie
 
-returns : tie.Need-returns
+returns : tie.Need-returns-then-n-gt100
 unfolding pairs_in
 returns c = (omega arith, omega arith)
 
-returns_2 : tie.Need-returns-2
+returns_2 : tie.Need-returns-else-n-gt100
 unfolding pairs_in
 returns_2 c = (omega arith, omega arith)
 

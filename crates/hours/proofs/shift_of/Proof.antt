@@ -9,31 +9,31 @@ use borrow.Author.Rules.{rules}
 use Rattle.hours.proofs.shift_of.Statement.{statement}
 use Rattle.hours.proofs.shift_of.Tie as tie
 
-array_copy_out_t5 : tie.Need-array-copy-out-t5
+array_copy_out_t5 : tie.Need-bounds-numbers-4
 array_copy_out_t5 c = search rules
 
-array_copy_out_t8 : tie.Need-array-copy-out-t8
+array_copy_out_t8 : tie.Need-bounds-numbers-5
 array_copy_out_t8 c = search rules
 
-array_copy_out_t11 : tie.Need-array-copy-out-t11
+array_copy_out_t11 : tie.Need-bounds-numbers-6
 array_copy_out_t11 c = search rules
 
-array_copy_out_t14 : tie.Need-array-copy-out-t14
+array_copy_out_t14 : tie.Need-bounds-numbers-7
 array_copy_out_t14 c = search rules
 
-array_copy_out_t17 : tie.Need-array-copy-out-t17
+array_copy_out_t17 : tie.Need-bounds-numbers-8
 array_copy_out_t17 c = search rules
 
-array_copy_out_t20 : tie.Need-array-copy-out-t20
+array_copy_out_t20 : tie.Need-bounds-numbers-9
 array_copy_out_t20 c = search rules
 
-array_copy_out_t23 : tie.Need-array-copy-out-t23
+array_copy_out_t23 : tie.Need-bounds-numbers-10
 array_copy_out_t23 c = search rules
 
 returns : tie.Need-returns
 unfolding shift_of
 returns c =
-    let head = c.before.before.before.before.before.before.before.args.t1 in
+    let head = c.args.numbers in
     let n4 : SFits w64 (get_or head 4 (pos 0)) = search rules in
     let n5 : SFits w64 (get_or head 5 (pos 0)) = search rules in
     let n6 : SFits w64 (get_or head 6 (pos 0)) = search rules in

@@ -8,19 +8,19 @@ use mir.Facts.{to_z-of_z}
 use Rattle.hours.proofs.shown.Statement.{statement}
 use Rattle.hours.proofs.shown.Tie as tie
 
-fields_shown_requires : tie.Need-fields-shown-requires
+fields_shown_requires : tie.Need-fields_shown-requires
 fields_shown_requires c κs = search rules
 
-cast_t11 : tie.Need-overflow-cast-t11
+cast_t11 : tie.Need-overflow_cast-result
 cast_t11 c = search rules
 
-array_copy_out_t14 : tie.Need-array-copy-out-t14
+array_copy_out_t14 : tie.Need-bounds-state-0
 array_copy_out_t14 c = search rules
 
-array_copy_out_t17 : tie.Need-array-copy-out-t17
+array_copy_out_t17 : tie.Need-bounds-state-1
 array_copy_out_t17 c = search rules
 
-array_copy_out_t20 : tie.Need-array-copy-out-t20
+array_copy_out_t20 : tie.Need-bounds-state-2
 array_copy_out_t20 c = search rules
 
 -- the settlement's fields fit
@@ -30,14 +30,14 @@ settled_fits s = (search rules, search rules, search rules, search rules, search
 
 returns : tie.Need-returns
 returns c =
-    let known = c.before.before.before.before.before.before.before.before.before in
-    let s = known.before.before.before.before.before.before.before in
-    let h = settled_fits s in
-    let kind : SFits w64 (get_or s.args.t3 0 (pos 0)) = search rules in
-    let power : SFits w64 (get_or s.args.t3 1 (pos 0)) = search rules in
-    let count : SFits w64 (get_or s.args.t3 2 (pos 0)) = search rules in
+    let known = c in
+    let s = known in
+    let h = settled_fits s.before.before.before.before.before.before.before.before.before.before.before.before.before.before.before.before in
+    let kind : SFits w64 (get_or s.args.state 0 (pos 0)) = search rules in
+    let power : SFits w64 (get_or s.args.state 1 (pos 0)) = search rules in
+    let count : SFits w64 (get_or s.args.state 2 (pos 0)) = search rules in
     rw (
-      to_z-of_z (cast_t11 known),
+      to_z-of_z (cast_t11 known.before.before.before.before.before.before.before.before.before),
       to_z-of_z h.0,
       to_z-of_z h.1,
       to_z-of_z h.2,
@@ -47,7 +47,7 @@ returns c =
       to_z-of_z kind,
       to_z-of_z power,
       to_z-of_z count,
-      known.before.fields-shown.ensures,
+      known.fields_shown.ensures,
     )
 
 pub shown_spec : {M : Type 1} → statement M

@@ -7,43 +7,43 @@ use Rattle.hours.specs.Hours.{state_asked}
 use Rattle.hours.proofs.state_in.Statement.{statement}
 use Rattle.hours.proofs.state_in.Tie as tie
 
-enum_told : tie.Need-enum-told
+enum_told : tie.Need-enum_told-1
 enum_told c = search rules
 
-enum_told_2 : tie.Need-enum-told-2
+enum_told_2 : tie.Need-enum_told-in-Edreg
 enum_told_2 c = search rules
 
-enum_told_3 : tie.Need-enum-told-3
+enum_told_3 : tie.Need-enum_told-in-Sreg
 enum_told_3 c = search rules
 
 at_requires : tie.Need-at-requires
 at_requires c κs = search rules
 
-at_requires_2 : tie.Need-at-requires-2
+at_requires_2 : tie.Need-at-requires-in-Sreg
 at_requires_2 c κs = search rules
 
-at_requires_3 : tie.Need-at-requires-3
+at_requires_3 : tie.Need-at-requires-in-Sreg-2
 at_requires_3 c κs = search rules
 
-state_asked_requires : tie.Need-state-asked-requires
+state_asked_requires : tie.Need-state_asked-requires
 state_asked_requires c κs = search rules
 
-returns : tie.Need-returns
+returns : tie.Need-returns-in-Dreg
 returns c = search rules
 
-returns_2 : tie.Need-returns-2
+returns_2 : tie.Need-returns-in-Edreg
 returns_2 c = search rules
 
-returns_3 : tie.Need-returns-3
+returns_3 : tie.Need-returns-in-Sreg
 returns_3 c =
-    let third = c.before in
-    let second = third.before in
-    let first = second.before in
-    let e = first.before in
-    let kind = back w64 first.at.type-inv first.at.ensures in
-    let power = back w64 second.at2.type-inv second.at2.ensures in
-    let count = back w64 third.at3.type-inv third.at3.ensures in
-    rw e.enum-told3.given.1 (c.state-asked.ensures ∙ (λ i. state_asked (kind i) (power i) (count i)))
+    let third = c in
+    let second = third in
+    let first = second in
+    let e = first in
+    let kind = back w64 first.at.type_inv first.at.ensures in
+    let power = back w64 second.at-in-Sreg.type_inv second.at-in-Sreg.ensures in
+    let count = back w64 third.at-in-Sreg-2.type_inv third.at-in-Sreg-2.ensures in
+    rw e.in-Sreg.is (c.state_asked.ensures ∙ (λ i. state_asked (kind i) (power i) (count i)))
 
 pub state_in_spec : {M : Type 1} → statement M
 state_in_spec =

@@ -8,7 +8,7 @@ use borrow.Author.Rules.{rules}
 use Rattle.intake.proofs.end_refusal.Statement.{statement}
 use Rattle.intake.proofs.end_refusal.Tie as tie
 
-book_refusal_requires : tie.Need-book-refusal-requires
+book_refusal_requires : tie.Need-book_refusal-state-requires
 book_refusal_requires c κs = search rules
 
 unless_requires : tie.Need-unless-requires
@@ -17,8 +17,8 @@ unless_requires c κs = search rules
 returns : tie.Need-returns
 unfolding end_refusal
 returns c =
-    let a = c.before.before.before.args in
-    c.unless.ensures ∙ ap (unless (leb 40 a.out) wrong_length) c.before.book-refusal.ensures
+    let a = c.args in
+    c.unless.ensures ∙ ap (unless (leb 40 a.out) wrong_length) c.book_refusal-state.ensures
 
 pub end_refusal_spec : {M : Type 1} → statement M
 end_refusal_spec = tie.close (tie.spec book_refusal_requires unless_requires returns)

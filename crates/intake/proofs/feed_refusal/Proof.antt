@@ -9,7 +9,7 @@ use borrow.Author.Rules.{rules}
 use Rattle.intake.proofs.feed_refusal.Statement.{statement}
 use Rattle.intake.proofs.feed_refusal.Tie as tie
 
-book_refusal_requires : tie.Need-book-refusal-requires
+book_refusal_requires : tie.Need-book_refusal-state-requires
 book_refusal_requires c κs = search rules
 
 unless_requires : tie.Need-unless-requires
@@ -18,8 +18,8 @@ unless_requires c κs = search rules
 returns : tie.Need-returns
 unfolding feed_refusal
 returns c =
-    let a = c.before.before.before.args in
-    c.unless.ensures ∙ ap (unless (leb a.chunk (a.out / 12)) wrong_length) c.before.book-refusal.ensures
+    let a = c.args in
+    c.unless.ensures ∙ ap (unless (leb a.chunk (a.out / 12)) wrong_length) c.book_refusal-state.ensures
 
 pub feed_refusal_spec : {M : Type 1} → statement M
 feed_refusal_spec = tie.close (tie.spec book_refusal_requires unless_requires returns)

@@ -9,51 +9,51 @@ use Rattle.intake.proofs.Kept.{end_room}
 use Rattle.intake.proofs.finish.Statement.{statement}
 use Rattle.intake.proofs.finish.Tie as tie
 
-end_refusal_requires : tie.Need-end-refusal-requires
+end_refusal_requires : tie.Need-end_refusal-k-requires
 end_refusal_requires c κs = search rules
 
-same_length : tie.Need-same-length
+same_length : tie.Need-shape_of-marks-then-k-ne0
 same_length c = search rules
 
-same_length_2 : tie.Need-same-length-2
+same_length_2 : tie.Need-shape_of-amounts-then-k-ne0
 same_length_2 c = search rules
 
-number : (c : tie.After-end-refusal) →
-    let a = c.before.before.before.before.before.before.args in
-    c.end-refusal.result ≡ end_number a.state a.marks.now a.amounts.now a.out.now
-number c = c.end-refusal.ensures
+number : (c : tie.After-end_refusal-k) →
+    let a = c.args in
+    c.end_refusal-k.result ≡ end_number a.state a.marks.now a.amounts.now a.out.now
+number c = c.end_refusal-k.ensures
 
-returns : tie.Need-returns
+returns : tie.Need-returns-then-k-ne0
 unfolding finished_of end_marks end_amounts end_out
 returns c =
     let e = number c.before in
-    rw (e, ne_eqb _ 0 (λ z. c.if1.true (e ∙ z))) (refl, (refl, (refl, (refl, omega arith))))
+    rw (e, ne_eqb _ 0 (λ z. c.if-k-ne0.true (e ∙ z))) (refl, (refl, (refl, (refl, omega arith))))
 
-none : (c : tie.Else1) →
-    let a = c.before.before.before.before.before.before.before.args in
+none : (c : tie.Else-k-ne0) →
+    let a = c.args in
     end_number a.state a.marks.now a.amounts.now a.out.now ≡ 0
-none c = sym (number c.before) ∙ c.if1.false
+none c = sym (number c.before) ∙ c.if-k-ne0.false
 
-finish_all_requires : tie.Need-finish-all-requires
+finish_all_requires : tie.Need-finish_all-requires
 finish_all_requires c κs =
-    let e = c.before.before.before in
-    let a = e.before.before.before.before.before.before.before.args in
-    end_room (book_of a.state.cover a.marks.now a.amounts.now) _ (none e)
+    let e = c in
+    let a = e.args in
+    end_room (book_of a.state.cover a.marks.now a.amounts.now) _ (none e.before.before.before)
 
-same_length_3 : tie.Need-same-length-3
+same_length_3 : tie.Need-shape_of-marks
 same_length_3 c = search rules
 
-same_length_4 : tie.Need-same-length-4
+same_length_4 : tie.Need-shape_of-amounts
 same_length_4 c = search rules
 
-same_length_5 : tie.Need-same-length-5
+same_length_5 : tie.Need-shape_of-out
 same_length_5 c = search rules
 
-returns_2 : tie.Need-returns-2
+returns_2 : tie.Need-returns
 unfolding finished_of end_marks end_amounts end_out
 returns_2 c =
-    let q = c.before.before.before.before.before in
-    rw (eq-eqb _ 0 (none q.before.before.before.before)) q.finish-all.ensures
+    let q = c in
+    rw (eq-eqb _ 0 (none q.before.before.before.before.before.before.before.before.before)) q.finish_all.ensures
 
 pub finish_spec : {M : Type 1} → statement M
 finish_spec =

@@ -23,60 +23,60 @@ use Rattle.intake.proofs.finish_all.Statement.{statement}
 use Rattle.intake.proofs.finish_all.Tie as tie
 
 -- the total as the code hands it on
-total_fits : (c : tie.After-struct-told) → SFits w64 c.before.before.total.result.0
+total_fits : (c : tie.After-struct_told-1) → SFits w64 c.total-sum.result.0
 total_fits c = search rules
 
-total_is_lem : (c : tie.After-struct-told) → let a = c.before.before.before.before.before.before.before.before.before.before.before.before.before.before.before.before.before.args in to_z w64 (of_z w64 c.before.before.total.result.0) ≡ book_total (last_book a.state a.marks.now a.amounts.now)
+total_is_lem : (c : tie.After-struct_told-1) → let a = c.args in to_z w64 (of_z w64 c.total-sum.result.0) ≡ book_total (last_book a.state a.marks.now a.amounts.now)
 total_is_lem c =
-    let l = c.before.before.before.before.before.before.before.before.before.before.before in
-    let s = l.before.before.before.before.before.before in
+    let l = c in
+    let s = l in
     let a = s.args in
-    to_z-of_z (total_fits c) ∙ ap (λ (z : Dollars). z.0) c.before.before.total.ensures ∙ ap book_total l.last_Line.ensures.0
+    to_z-of_z (total_fits c) ∙ ap (λ (z : Dollars). z.0) c.total-sum.ensures ∙ ap book_total l.last_line-work.ensures.0
 
 -- the total is at most 28 bytes
-short : (c : tie.After-struct-told) → length (total_text (to_z w64 (of_z w64 c.before.before.total.result.0))) ≤ 28
+short : (c : tie.After-struct_told-1) → length (total_text (to_z w64 (of_z w64 c.total-sum.result.0))) ≤ 28
 short c =
-    let z = c.before.before.total.result.0 in
+    let z = c.total-sum.result.0 in
     rw (to_z-of_z (total_fits c)) (omega (arith, total_long z, length_signed z (total_fits c)))
 
-last_line_requires : tie.Need-last-line-requires
+last_line_requires : tie.Need-last_line-work-requires
 last_line_requires c κs =
-    let s = c.before.before.before.before.before in
+    let s = c in
     let a = s.args in
     omega (arith, s.requires.0)
 
-total_requires : tie.Need-total-requires
+total_requires : tie.Need-total-sum-requires
 total_requires c κs =
-    let l = c.before.before.before.before.before.before.before.before in
-    let s = l.before.before.before.before.before.before in
+    let l = c in
+    let s = l in
     let a = s.args in
-    ap book_refusal l.last_Line.ensures.0 ∙ all_kept (book_of a.state.cover a.marks.now a.amounts.now) (last_in a.state.line) s.requires.1
+    ap book_refusal l.last_line-work.ensures.0 ∙ all_kept (book_of a.state.cover a.marks.now a.amounts.now) (last_in a.state.line) s.requires.1
 
-put_total_requires : tie.Need-put-total-requires
-put_total_requires c κs = let l = c.before.before.before.before.before.before.before.before.before.before.before.last_Line in omega (arith, short c, l.ensures.1.1.1, l.auto.1.1.1.0, c.before.before.before.before.before.before.before.before.before.before.before.before.before.before.before.before.before.requires.0)
+put_total_requires : tie.Need-put_total-to-requires
+put_total_requires c κs = let l = c.last_line-work in omega (arith, short c, l.ensures.1.1.1, l.auto.out, c.requires.0)
 
-same_length : tie.Need-same-length
+same_length : tie.Need-shape_of-marks
 same_length c = search rules
 
-same_length_2 : tie.Need-same-length-2
+same_length_2 : tie.Need-shape_of-amounts
 same_length_2 c = search rules
 
-same_length_3 : tie.Need-same-length-3
+same_length_3 : tie.Need-shape_of-out
 same_length_3 c = search rules
 
 returns : tie.Need-returns
-returns c = let p = c.before.before in
-    let d = p.before in
-    let l = d.before.before.before.before.before.before.before.before.before.before.before.last_Line in
-    let s = d.before.before.before.before.before.before.before.before.before.before.before.before.before.before.before.before.before in
+returns c = let p = c in
+    let d = p in
+    let l = d.last_line-work in
+    let s = d in
     let a = s.args in
     let book = last_book a.state a.marks.now a.amounts.now in
     let first = last_answer a.state a.marks.now a.amounts.now in
     let r = l.ensures in
-    let t = rw (total_is_lem d) at p.put-total.ensures in
+    let t = rw (total_is_lem d.before.before.before) at p.put_total-to.ensures in
     let two = put_then a.out.now _ _ 0 _ _ first (total_text (book_total book)) (omega (arith, r.1.0, r.1.1.1, s.requires.0)) (omega (arith, r.1.0)) r.1.1.0 t.0 t.1 in
-    let long : p.put-total.result ≡ length (first ++ total_text (book_total book)) = omega (arith, two.0) in
-    (λ i. record { refusal = 0; written = long i }, (ap (λ (b : Book). b.board.marks) r.0, (ap (λ (b : Book). b.board.amounts) r.0, (two.1, omega (arith, p.put-total.ensures.0, short d, r.1.1.1, s.requires.0)))))
+    let long : p.put_total-to.result ≡ length (first ++ total_text (book_total book)) = omega (arith, two.0) in
+    (λ i. record { refusal = 0; written = long i }, (ap (λ (b : Book). b.board.marks) r.0, (ap (λ (b : Book). b.board.amounts) r.0, (two.1, omega (arith, p.put_total-to.ensures.0, short d.before.before.before, r.1.1.1, s.requires.0)))))
 
 pub finish_all_spec : {M : Type 1} → statement M
 finish_all_spec =

@@ -5,7 +5,7 @@ use Rattle.intake.specs.Inner.{first_progress}
 use Rattle.intake.proofs.start.Statement.{statement}
 use Rattle.intake.proofs.start.Tie as tie
 
-open_requires : tie.Need-open-requires
+open_requires : tie.Need-open-none-requires
 open_requires c κs = search rules
 
 empty_requires : tie.Need-empty-requires
@@ -13,7 +13,7 @@ empty_requires c κs = search rules
 
 returns : tie.Need-returns
 unfolding first_progress opened_head
-returns c = rw (c.empty.ensures, c.before.before.«open».ensures)
+returns c = rw (c.empty.ensures, c.open-none.ensures)
 
 pub start_spec : {M : Type 1} → statement M
 start_spec = tie.close (tie.spec open_requires empty_requires returns)

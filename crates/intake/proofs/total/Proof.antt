@@ -9,20 +9,20 @@ use borrow.Author.Rules.{rules}
 use Rattle.intake.proofs.total.Statement.{statement}
 use Rattle.intake.proofs.total.Tie as tie
 
-total_in_requires : tie.Need-total-in-requires
+total_in_requires : tie.Need-total_in-told-requires
 total_in_requires c κs = search rules
 
-returns : tie.Need-returns
+returns : tie.Need-returns-then-cover
 returns c =
-    let q = c.before in
-    let t = q.before.before in
-    let s = t.before.before in
+    let q = c in
+    let t = q in
+    let s = t in
     let a = s.args in
-    ap (λ (x : Told). x.amount) q.total-in.ensures ∙ ap dollars (total_is_lem (book_of a.cover a.marks.now a.amounts.now) s.requires t.if1.true)
+    ap (λ (x : Told). x.amount) q.total_in-told.ensures ∙ ap dollars (total_is_lem (book_of a.cover a.marks.now a.amounts.now) s.requires t.if-cover.true)
 
-returns_2 : tie.Need-returns-2
+returns_2 : tie.Need-returns
 unfolding book_total
-returns_2 c = rw c.if1.false
+returns_2 c = rw c.if-cover.false
 
 pub total_spec : {M : Type 1} → statement M
 total_spec = tie.close (tie.spec total_in_requires returns returns_2)

@@ -9,33 +9,33 @@ use Rattle.whole.proofs.Choice.{clash}
 use Rattle.lines.proofs.block_at.Statement.{statement}
 use Rattle.lines.proofs.block_at.Tie as tie
 
-returns : tie.Need-returns
+returns : tie.Need-returns-then-bytes-from
 returns c = λ e. clash e
 
-sub_if2 : tie.Need-overflow-sub-if2
+sub_if2 : tie.Need-overflow_sub-bytes
 sub_if2 c = search rules
 
-returns_2 : tie.Need-returns-2
+returns_2 : tie.Need-returns-then-bytes-from-lt-BLOCK
 returns_2 c = λ e. clash e
 
-add_end : tie.Need-overflow-add-end
+add_end : tie.Need-overflow_add-end
 add_end c = search rules
 
-sub_no_end : tie.Need-overflow-sub-no-end
+sub_no_end : tie.Need-slice_bounds-no_end-count
 sub_no_end c = search rules
 
-part_no_end_start : tie.Need-slice-bounds-no-end-start
+part_no_end_start : tie.Need-slice_bounds-no_end-start
 part_no_end_start c = search rules
 
-part_no_end_end : tie.Need-slice-bounds-no-end-end
+part_no_end_end : tie.Need-slice_bounds-no_end-end
 part_no_end_end c = search rules
 
-no_end_requires : tie.Need-no-end-requires
+no_end_requires : tie.Need-no_end-requires
 no_end_requires c κs = search rules
 
-returns_3 : tie.Need-returns-3
+returns_3 : tie.Need-returns
 returns_3 c = λ e.
-    let a = c.before.before.before.before.before.args in
+    let a = c.args in
     let long : a.from + 24 - a.from ≡ 24 = omega arith in
     (omega arith, ap (λ (k : ℕ). no_end (take k (drop a.from a.bytes.now))) (sym long) ∙ sym c.no_end.ensures ∙ e)
 

@@ -5,19 +5,19 @@ use Rattle.lines.proofs.Lines.{before_past}
 use Rattle.lines.proofs.past_block.Statement.{statement}
 use Rattle.lines.proofs.past_block.Tie as tie
 
-block_at_requires : tie.Need-block-at-requires
+block_at_requires : tie.Need-block_at-requires
 block_at_requires c κs = tt
 
-add_result : tie.Need-overflow-add-result
-add_result c = omega (arith, (c.before.block_at.ensures c.if1.true).0)
+add_result : tie.Need-overflow_add-result
+add_result c = omega (arith, (c.block_at.ensures c.if-block_at.true).0)
 
-returns : tie.Need-returns
+returns : tie.Need-returns-then-block_at
 returns c =
-    let a = c.before.before.before.args in
-    let block = c.before.block_at.ensures c.if1.true in
+    let a = c.args in
+    let block = c.block_at.ensures c.if-block_at.true in
     before_past a.bytes.now a.from 24 block.0 block.1
 
-returns_2 : tie.Need-returns-2
+returns_2 : tie.Need-returns
 returns_2 c = refl
 
 pub past_block_spec : {M : Type 1} → statement M

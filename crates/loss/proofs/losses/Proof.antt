@@ -16,24 +16,24 @@ use Rattle.loss.proofs.losses.Tie as tie
 fits : (c : tie.Start) → LossFits c.args.charged c.args.discharged c.args.voltage c.args.cost
 fits c = loss_fits _ _ _ _ c.requires
 
-sub_at_least_zero : tie.Need-overflow-sub-at-least-zero
+sub_at_least_zero : tie.Need-overflow_sub-charged
 sub_at_least_zero c =
     let a = inside (fits c).into in
     let b = inside (fits c).out in
     omega signed
 
-at_least_zero_requires : tie.Need-at-least-zero-requires
+at_least_zero_requires : tie.Need-at_least_zero-net-requires
 at_least_zero_requires c κs = search rules
 
-net_is : (c : tie.After-at-least-zero) → to_z w64 (of_z w64 c.at-least-zero.result) ≡ net c.before.args.charged c.before.args.discharged
+net_is : (c : tie.After-at_least_zero-net) → to_z w64 (of_z w64 c.at_least_zero-net.result) ≡ net c.args.charged c.args.discharged
 net_is c =
-    let f = c.before.ranges in
-    back w64 c.at-least-zero.type-inv (rw (to_z-of_z (sub_at_least_zero c.before), to_z-of_z f.charged, to_z-of_z f.discharged) at c.at-least-zero.ensures)
+    let f = c.ranges in
+    back w64 c.at_least_zero-net.type_inv (rw (to_z-of_z (sub_at_least_zero c.before), to_z-of_z f.charged, to_z-of_z f.discharged) at c.at_least_zero-net.ensures)
 
-mul_at_least_zero : tie.Need-overflow-mul-at-least-zero
+mul_at_least_zero : tie.Need-overflow_mul-net
 mul_at_least_zero c = let b = net_between (fits c.before) in rw (net_is c) (omega signed)
 
-sub_at_least_zero_2 : tie.Need-overflow-sub-at-least-zero-2
+sub_at_least_zero_2 : tie.Need-overflow_sub-net
 sub_at_least_zero_2 c =
     let s = c.before in
     let a = inside (fits s).into in
@@ -42,22 +42,22 @@ sub_at_least_zero_2 c =
     let m = mul_at_least_zero c in
     omega signed
 
-at_least_zero_requires_2 : tie.Need-at-least-zero-requires-2
+at_least_zero_requires_2 : tie.Need-at_least_zero-above-requires
 at_least_zero_requires_2 c κs = search rules
 
 percent_requires : tie.Need-percent-requires
 percent_requires c κs = search rules
 
-above_is : (c : tie.After-at-least-zero2) → to_z w64 (of_z w64 c.at-least-zero2.result) ≡ above c.before.before.args.charged c.before.before.args.discharged
+above_is : (c : tie.After-at_least_zero-above) → to_z w64 (of_z w64 c.at_least_zero-above.result) ≡ above c.args.charged c.args.discharged
 above_is c =
     let n = c.before in
-    back w64 c.at-least-zero2.type-inv
-    (rw (to_z-of_z (sub_at_least_zero_2 n), to_z-of_z (mul_at_least_zero n), net_is n, to_z-of_z n.before.ranges.charged) at c.at-least-zero2.ensures)
+    back w64 c.at_least_zero-above.type_inv
+    (rw (to_z-of_z (sub_at_least_zero_2 n), to_z-of_z (mul_at_least_zero n), net_is n, to_z-of_z n.ranges.charged) at c.at_least_zero-above.ensures)
 
-percent_is : (c : tie.After-percent) → to_z w64 (of_z w64 c.percent.result) ≡ percent c.before.before.before.args.voltage
-percent_is c = back w64 c.percent.type-inv (rw (to_z-of_z c.before.before.before.ranges.voltage) at c.percent.ensures)
+percent_is : (c : tie.After-percent) → to_z w64 (of_z w64 c.percent.result) ≡ percent c.args.voltage
+percent_is c = back w64 c.percent.type_inv (rw (to_z-of_z c.ranges.voltage) at c.percent.ensures)
 
-mul_price : tie.Need-overflow-mul-price
+mul_price : tie.Need-overflow_mul-price
 mul_price c =
     let s = c.before.before.before in
     rw (percent_is c, to_z-of_z s.ranges.cost) (within_fits w64 tt (to_within (price_between (fits s))))
@@ -65,45 +65,45 @@ mul_price c =
 price_is : (c : tie.After-percent) →
     let s = c.before.before.before in
     to_z w64 (of_z w64 (to_z w64 (of_z w64 c.percent.result) *ℤ to_z w64 (of_z w64 s.args.cost))) ≡ percent s.args.voltage *ℤ s.args.cost
-price_is c = rw (to_z-of_z (mul_price c), percent_is c, to_z-of_z c.before.before.before.ranges.cost)
+price_is c = rw (to_z-of_z (mul_price c), percent_is c, to_z-of_z c.ranges.cost)
 
-mul_nearest : tie.Need-overflow-mul-nearest
+mul_nearest : tie.Need-overflow_mul-net-2
 mul_nearest c = rw (net_is c.before.before, price_is c) (within_fits w64 tt (to_within (basic_product (fits c.before.before.before))))
 
-nearest_requires : tie.Need-nearest-requires
+nearest_requires : tie.Need-nearest-basic-requires
 nearest_requires c κs = search rules
 
-mul_nearest_2 : tie.Need-overflow-mul-nearest-2
+mul_nearest_2 : tie.Need-overflow_mul-above
 mul_nearest_2 c =
     let p = c.before in
     rw (above_is p.before, price_is p) (within_fits w64 tt (to_within (excess_half (fits p.before.before.before))))
 
-mul_nearest_3 : tie.Need-overflow-mul-nearest-3
+mul_nearest_3 : tie.Need-overflow_mul-above-2
 mul_nearest_3 c =
     let p = c.before in
     rw (to_z-of_z (mul_nearest_2 c), above_is p.before, price_is p) (within_fits w64 tt (to_within (excess_product (fits p.before.before.before))))
 
-nearest_requires_2 : tie.Need-nearest-requires-2
+nearest_requires_2 : tie.Need-nearest-excess-requires
 nearest_requires_2 c κs = search rules
 
-basic_is : (c : tie.After-nearest) →
-    let a = c.before.before.before.before.args in
-    to_z w64 (of_z w64 c.nearest.result) ≡ basic_fee a.charged a.discharged a.voltage a.cost
+basic_is : (c : tie.After-nearest-basic) →
+    let a = c.args in
+    to_z w64 (of_z w64 c.nearest-basic.result) ≡ basic_fee a.charged a.discharged a.voltage a.cost
 unfolding basic_fee
 basic_is c =
     let p = c.before in
-    back w64 c.nearest.type-inv (rw (to_z-of_z (mul_nearest p), net_is p.before.before, price_is p) at c.nearest.ensures)
+    back w64 c.nearest-basic.type_inv (rw (to_z-of_z (mul_nearest p), net_is p.before.before, price_is p) at c.nearest-basic.ensures)
 
-excess_is : (c : tie.After-nearest2) →
-    let a = c.before.before.before.before.before.args in
-    to_z w64 (of_z w64 c.nearest2.result) ≡ excess_fee a.charged a.discharged a.voltage a.cost
+excess_is : (c : tie.After-nearest-excess) →
+    let a = c.args in
+    to_z w64 (of_z w64 c.nearest-excess.result) ≡ excess_fee a.charged a.discharged a.voltage a.cost
 unfolding excess_fee
 excess_is c =
     let n = c.before in
     let p = n.before in
-    back w64 c.nearest2.type-inv (rw (to_z-of_z (mul_nearest_3 n), to_z-of_z (mul_nearest_2 n), above_is p.before, price_is p) at c.nearest2.ensures)
+    back w64 c.nearest-excess.type_inv (rw (to_z-of_z (mul_nearest_3 n), to_z-of_z (mul_nearest_2 n), above_is p.before, price_is p) at c.nearest-excess.ensures)
 
-add_t10 : tie.Need-overflow-add-t10
+add_t10 : tie.Need-overflow_add-result
 add_t10 c =
     let f = fits c.before.before.before.before.before in
     let b = basic_between f in

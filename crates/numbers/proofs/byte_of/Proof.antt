@@ -14,23 +14,23 @@ within_requires : tie.Need-within-requires
 within_requires c κs = search rules
 
 -- what the test found
-found : (c : tie.After-within) → in_range (pos 0) (pos 255) c.before.args.z ≡ c.within.result
-found c = sym (rw (to_z-of_z c.before.ranges.z) at c.within.ensures)
+found : (c : tie.After-within) → in_range (pos 0) (pos 255) c.args.z ≡ c.within.result
+found c = sym (rw (to_z-of_z c.ranges.z) at c.within.ensures)
 
-cast_result : tie.Need-overflow-cast-result
+cast_result : tie.Need-overflow_cast-result
 cast_result c =
-    let n = natural 255 _ (found c.before ∙ c.if1.true) in
-    rw (to_z-of_z c.before.before.ranges.z) (n.sign, record { fits = omega arith })
+    let n = natural 255 _ (found c.before ∙ c.if-within.true) in
+    rw (to_z-of_z c.ranges.z) (n.sign, record { fits = omega arith })
 
-returns : tie.Need-returns
+returns : tie.Need-returns-then-within
 unfolding byte_of
 returns c =
-    let e = found c.before ∙ c.if1.true in
-    rw (to_z-of_z c.before.before.ranges.z, e) (natural 255 _ e).size
+    let e = found c.before ∙ c.if-within.true in
+    rw (to_z-of_z c.ranges.z, e) (natural 255 _ e).size
 
-returns_2 : tie.Need-returns-2
+returns_2 : tie.Need-returns
 unfolding byte_of
-returns_2 c = rw (found c.before ∙ c.if1.false)
+returns_2 c = rw (found c.before ∙ c.if-within.false)
 
 pub byte_of_spec : {M : Type 1} → statement M
 byte_of_spec = tie.close (tie.spec within_requires cast_result returns returns_2)

@@ -12,10 +12,10 @@ use Rattle.numbers.specs.declared.Earlier.{Earlier}
 use Rattle.numbers.proofs.first_four.Statement.{statement}
 use Rattle.numbers.proofs.first_four.Tie as tie
 
-slice_aggregate_fill_bytes : tie.Need-slice-aggregate-fill-bytes
+slice_aggregate_fill_bytes : tie.Need-slice_bounds-fill_bytes-end
 slice_aggregate_fill_bytes c = search rules
 
-fill_bytes_requires : tie.Need-fill-bytes-requires
+fill_bytes_requires : tie.Need-fill_bytes-requires
 fill_bytes_requires c κs = search rules
 
 -- its two fields
@@ -26,11 +26,11 @@ four : (n : List ℤ) {count : ℕ} {scores : List ℕ} → count ≡ min (lengt
 unfolding first_four
 four n h e = ap₂ made h e
 
-returns : tie.Need-returns
-returns c = four _ (omega arith) c.before.before.fill-bytes.ensures
+returns : tie.Need-returns-then-n-lt4
+returns c = four _ (omega arith) c.fill_bytes.ensures
 
-returns_2 : tie.Need-returns-2
-returns_2 c = four _ (omega arith) c.before.before.fill-bytes.ensures
+returns_2 : tie.Need-returns-else-n-lt4
+returns_2 c = four _ (omega arith) c.fill_bytes.ensures
 
 pub first_four_spec : {M : Type 1} → statement M
 first_four_spec =

@@ -9,8 +9,8 @@ use Rattle.pair.proofs.Pairs.{neither}
 use Rattle.pair.proofs.from_bits.Statement.{statement}
 use Rattle.pair.proofs.from_bits.Tie as tie
 
-plain : (c : tie.Else1) → is_special c.before.before.before.args.frequency || is_special c.before.before.before.args.power ≡ false
-plain c = rw (c.before.before.special.ensures, c.before.special2.ensures) at c.if1.false
+plain : (c : tie.Else-special) → is_special c.args.frequency || is_special c.args.power ≡ false
+plain c = rw (c.special.ensures, c.special-2.ensures) at c.if-special.false
 
 special_requires : tie.Need-special-requires
 special_requires c κs = search rules
@@ -18,21 +18,21 @@ special_requires c κs = search rules
 special_requires_2 : tie.Need-special-requires-2
 special_requires_2 c κs = search rules
 
-returns : tie.Need-returns
+returns : tie.Need-returns-then-special
 unfolding logged_bits
-returns c = rw (rw (c.before.before.special.ensures, c.before.special2.ensures) at c.if1.true)
+returns c = rw (rw (c.special.ensures, c.special-2.ensures) at c.if-special.true)
 
-float_from_bits_f : tie.Need-float-from-bits-f
+float_from_bits_f : tie.Need-float_from_bits-f
 float_from_bits_f c =
     let s = c.before.before.before in
     plain_bits s.args.frequency (neither (is_special s.args.frequency) (is_special s.args.power) (plain c)).0
 
-float_from_bits_p : tie.Need-float-from-bits-p
+float_from_bits_p : tie.Need-float_from_bits-p
 float_from_bits_p c =
     let s = c.before.before.before in
     plain_bits s.args.power (neither (is_special s.args.frequency) (is_special s.args.power) (plain c)).1
 
-returns_2 : tie.Need-returns-2
+returns_2 : tie.Need-returns
 unfolding logged_bits
 returns_2 c = rw (plain c)
 

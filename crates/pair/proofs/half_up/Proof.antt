@@ -8,21 +8,21 @@ use Rattle.pair.proofs.Singles.{shifted, half_places}
 use Rattle.pair.proofs.half_up.Statement.{statement}
 use Rattle.pair.proofs.half_up.Tie as tie
 
-sub_result : tie.Need-overflow-sub-result
+sub_result : tie.Need-overflow_sub-result
 sub_result c = search rules
 
-cast_result : tie.Need-overflow-cast-result
+cast_result : tie.Need-overflow_cast-result
 cast_result c = search rules
 
-shl_result : tie.Need-overflow-shl-result
+shl_result : tie.Need-overflow_shl-result
 shl_result c = search rules
 
-add_result : tie.Need-overflow-add-result
+add_result : tie.Need-overflow_add-result
 add_result c =
     let l : 2 ^ (c.args.places - 1) < 2 ^ 62 = pow-lt {i = c.args.places - 1} {j = 62} (omega arith) in
     omega (arith, shifted (c.args.places - 1) (omega arith))
 
-shr_result : tie.Need-overflow-shr-result
+shr_result : tie.Need-overflow_shr-result
 shr_result c = search rules
 
 returns : tie.Need-returns

@@ -5,10 +5,10 @@ use Rattle.pair.proofs.Singles.{significand_is}
 use Rattle.pair.proofs.significand.Statement.{statement}
 use Rattle.pair.proofs.significand.Tie as tie
 
-cast_result : tie.Need-overflow-cast-result
+cast_result : tie.Need-overflow_cast-result
 cast_result c = search rules
 
-add_result : tie.Need-overflow-add-result
+add_result : tie.Need-overflow_add-result
 add_result c = search rules
 
 returns : tie.Need-returns

@@ -4,34 +4,34 @@ use borrow.Author.Rules.{rules}
 use Rattle.pair_frame.proofs.bytes_of.Statement.{statement}
 use Rattle.pair_frame.proofs.bytes_of.Tie as tie
 
-cast_t6 : tie.Need-overflow-cast-t6
+cast_t6 : tie.Need-overflow_cast-result
 cast_t6 c = search rules
 
-cast_t8 : tie.Need-overflow-cast-t8
+cast_t8 : tie.Need-overflow_cast-result-2
 cast_t8 c = search rules
 
-cast_t13 : tie.Need-overflow-cast-t13
+cast_t13 : tie.Need-overflow_cast-result-3
 cast_t13 c = search rules
 
-cast_t17 : tie.Need-overflow-cast-t17
+cast_t17 : tie.Need-overflow_cast-result-4
 cast_t17 c = search rules
 
-cast_t20 : tie.Need-overflow-cast-t20
+cast_t20 : tie.Need-overflow_cast-result-5
 cast_t20 c = search rules
 
-cast_t22 : tie.Need-overflow-cast-t22
+cast_t22 : tie.Need-overflow_cast-result-6
 cast_t22 c = search rules
 
-cast_t27 : tie.Need-overflow-cast-t27
+cast_t27 : tie.Need-overflow_cast-result-7
 cast_t27 c = search rules
 
-cast_t31 : tie.Need-overflow-cast-t31
+cast_t31 : tie.Need-overflow_cast-result-8
 cast_t31 c = search rules
 
-cast_t34 : tie.Need-overflow-cast-t34
+cast_t34 : tie.Need-overflow_cast-result-9
 cast_t34 c = search rules
 
-cast_t36 : tie.Need-overflow-cast-t36
+cast_t36 : tie.Need-overflow_cast-result-10
 cast_t36 c = search rules
 
 returns : tie.Need-returns

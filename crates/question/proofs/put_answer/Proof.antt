@@ -3,83 +3,83 @@ use borrow.Author.Rules.{rules}
 use Rattle.question.proofs.put_answer.Statement.{statement}
 use Rattle.question.proofs.put_answer.Tie as tie
 
-enum_known_question : tie.Need-enum-known-question
+enum_known_question : tie.Need-enum_known-question
 enum_known_question c = search rules
 
-put_rule_requires : tie.Need-put-rule-requires
+put_rule_requires : tie.Need-put_rule-requires
 put_rule_requires c κs = search rules
 
-enum_known_question_2 : tie.Need-enum-known-question-2
+enum_known_question_2 : tie.Need-enum_known-question-in-Hour-1
 enum_known_question_2 c = search rules
 
-put_hour_requires : tie.Need-put-hour-requires
+put_hour_requires : tie.Need-put_hour-requires
 put_hour_requires c κs = search rules
 
-enum_known_question_3 : tie.Need-enum-known-question-3
+enum_known_question_3 : tie.Need-enum_known-question-in-Series-1
 enum_known_question_3 c = search rules
 
-put_series_requires : tie.Need-put-series-requires
+put_series_requires : tie.Need-put_series-requires
 put_series_requires c κs = search rules
 
-enum_known_question_4 : tie.Need-enum-known-question-4
+enum_known_question_4 : tie.Need-enum_known-question-in-Frame-1
 enum_known_question_4 c = search rules
 
-put_framed_requires : tie.Need-put-framed-requires
+put_framed_requires : tie.Need-put_framed-requires
 put_framed_requires c κs = search rules
 
-enum_told : tie.Need-enum-told
+enum_told : tie.Need-enum_told-1
 enum_told c = search rules
 
-put_pair_requires : tie.Need-put-pair-requires
+put_pair_requires : tie.Need-put_pair-requires
 put_pair_requires c κs = search rules
 
-enum_told_2 : tie.Need-enum-told-2
+enum_told_2 : tie.Need-enum_told-in-Unknown
 enum_told_2 c = search rules
 
-array_share_prefix_none : tie.Need-array-share-prefix-none
+array_share_prefix_none : tie.Need-slice_bounds-none-end
 array_share_prefix_none c = search rules
 
-slice_aggregate_put_line : tie.Need-slice-aggregate-put-line
+slice_aggregate_put_line : tie.Need-slice_bounds-put_line-end
 slice_aggregate_put_line c = search rules
 
-put_line_requires : tie.Need-put-line-requires
+put_line_requires : tie.Need-put_line-requires
 put_line_requires c κs = search rules
 
-same_length : tie.Need-same-length
+same_length : tie.Need-shape_of-out-in-Rule
 same_length c = search rules
 
-returns : tie.Need-returns
-returns c = rw c.before.before.before.before.before.question.given.1 c.before.before.put-rule.ensures
+returns : tie.Need-returns-in-Rule
+returns c = rw c.in-Rule.is c.put_rule.ensures
 
-same_length_2 : tie.Need-same-length-2
+same_length_2 : tie.Need-shape_of-out-in-Hour
 same_length_2 c = search rules
 
-returns_2 : tie.Need-returns-2
-returns_2 c = rw c.before.before.before.before.before.question2.given.1 c.before.before.put-hour.ensures
+returns_2 : tie.Need-returns-in-Hour
+returns_2 c = rw c.in-Hour.is c.put_hour.ensures
 
-same_length_3 : tie.Need-same-length-3
+same_length_3 : tie.Need-shape_of-out-in-Series
 same_length_3 c = search rules
 
-returns_3 : tie.Need-returns-3
-returns_3 c = rw c.before.before.before.before.before.question3.given.1 c.before.before.put-series.ensures
+returns_3 : tie.Need-returns-in-Series
+returns_3 c = rw c.in-Series.is c.put_series.ensures
 
-same_length_4 : tie.Need-same-length-4
+same_length_4 : tie.Need-shape_of-out-in-Frame
 same_length_4 c = search rules
 
-returns_4 : tie.Need-returns-4
-returns_4 c = rw c.before.before.before.before.before.question4.given.1 c.before.before.put-framed.ensures
+returns_4 : tie.Need-returns-in-Frame
+returns_4 c = rw c.in-Frame.is c.put_framed.ensures
 
-same_length_5 : tie.Need-same-length-5
+same_length_5 : tie.Need-shape_of-out-in-PairFrame
 same_length_5 c = search rules
 
-returns_5 : tie.Need-returns-5
-returns_5 c = rw c.before.before.before.before.enum_told.given.1 c.before.before.put-pair.ensures
+returns_5 : tie.Need-returns-in-PairFrame
+returns_5 c = rw c.in-PairFrame.is c.put_pair.ensures
 
-same_length_6 : tie.Need-same-length-6
+same_length_6 : tie.Need-shape_of-out-in-Unknown
 same_length_6 c = search rules
 
-returns_6 : tie.Need-returns-6
-returns_6 c = let y = c.before.before in rw y.before.before.before.enum-told2.given.1 y.put-line.ensures
+returns_6 : tie.Need-returns-in-Unknown
+returns_6 c = let y = c in rw y.in-Unknown.is y.put_line.ensures
 
 pub put_answer_spec : {M : Type 1} → statement M
 put_answer_spec =

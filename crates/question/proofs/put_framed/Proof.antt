@@ -7,13 +7,13 @@ use Rattle.question.specs.Questions.{frame_prints}
 use Rattle.question.proofs.put_framed.Statement.{statement}
 use Rattle.question.proofs.put_framed.Tie as tie
 
-head_of_requires : tie.Need-head-of-requires
+head_of_requires : tie.Need-head_of-requires
 head_of_requires c κs = search rules
 
 rest_requires : tie.Need-rest-requires
 rest_requires c κs = search rules
 
-head_of_requires_2 : tie.Need-head-of-requires-2
+head_of_requires_2 : tie.Need-head_of-requires-2
 head_of_requires_2 c κs = search rules
 
 part_requires : tie.Need-part-requires
@@ -25,26 +25,26 @@ part_requires_2 c κs = search rules
 rest_requires_2 : tie.Need-rest-requires-2
 rest_requires_2 c κs = search rules
 
-answer_requires : tie.Need-answer-requires
+answer_requires : tie.Need-answer-framed-requires
 answer_requires c κs = search rules
 
-put_frames_requires : tie.Need-put-frames-requires
+put_frames_requires : tie.Need-put_frames-requires
 put_frames_requires c κs = search rules
 
-same_length : tie.Need-same-length
+same_length : tie.Need-shape_of-out
 same_length c = search rules
 
 returns : tie.Need-returns
 returns c =
-    let x = c.before.before.before.before in
-    let q2 = x.before in
-    let p2 = q2.before in
-    let q = p2.before in
-    let h2 = q.before in
-    let r = h2.before in
-    let e = rw (r.before.head-of.ensures, h2.head-of2.ensures, r.rest.ensures, q.part.ensures, p2.part2.ensures, q2.rest2.ensures) at x.answer.ensures in
-    let s = r.before.before.before.before.before in
-    let p = rw e at c.before.before.put-frames.ensures in
+    let x = c in
+    let q2 = x in
+    let p2 = q2 in
+    let q = p2 in
+    let h2 = q in
+    let r = h2 in
+    let e = rw (r.head_of.ensures, h2.head_of-2.ensures, r.rest.ensures, q.part.ensures, p2.part-2.ensures, q2.rest-2.ensures) at x.answer-framed.ensures in
+    let s = r in
+    let p = rw e at c.put_frames.ensures in
     let long = frames_long (frame_prints s.args.asks s.args.numbers.now s.args.places) in
     let one = begin s.args.out.now _ _ _ (omega (arith, long, s.requires)) p.0 p.1 in
     (one.0, (one.1, omega (arith, one.0, long)))

@@ -6,7 +6,7 @@ use borrow.Author.Rules.{rules}
 use Rattle.question.proofs.put_hour.Statement.{statement}
 use Rattle.question.proofs.put_hour.Tie as tie
 
-head_of_requires : tie.Need-head-of-requires
+head_of_requires : tie.Need-head_of-requires
 head_of_requires c κs = search rules
 
 part_requires : tie.Need-part-requires
@@ -18,25 +18,25 @@ part_requires_2 c κs = search rules
 rest_requires : tie.Need-rest-requires
 rest_requires c κs = search rules
 
-answer_requires : tie.Need-answer-requires
+answer_requires : tie.Need-answer-few-requires
 answer_requires c κs = search rules
 
 -- what the box holds
-here : (c : tie.After-answer) → let a = c.before.before.before.before.before.before.before.before.args in Held c.answer.result (hour_prints a.hour a.numbers.now a.places)
+here : (c : tie.After-answer-few) → let a = c.args in Held c.answer-few.result (hour_prints a.hour a.numbers.now a.places)
 here c =
-    let r = c.before in
-    let e = r.before in
-    let p = e.before in
-    held _ _ (hour_few _ _) (rw (p.before.head-of.ensures, p.part.ensures, e.part2.ensures, r.rest.ensures) at c.answer.ensures)
+    let r = c in
+    let e = r in
+    let p = e in
+    held _ _ (hour_few _ _) (rw (p.head_of.ensures, p.part.ensures, e.part-2.ensures, r.rest.ensures) at c.answer-few.ensures)
 
-put_few_requires : tie.Need-put-few-requires
+put_few_requires : tie.Need-put_few-requires
 put_few_requires c κs = ((here c.before).most, search rules)
 
-same_length : tie.Need-same-length
+same_length : tie.Need-shape_of-out
 same_length c = search rules
 
 returns : tie.Need-returns
-returns c = rw (here c.before.before.before.before).back at c.before.before.put-few.ensures
+returns c = rw (here c.before.before.before.before).back at c.put_few.ensures
 
 pub put_hour_spec : {M : Type 1} → statement M
 put_hour_spec =

@@ -11,13 +11,13 @@ use Rattle.ramp.proofs.Laws.{ramp_level}
 use Rattle.ramp.proofs.moving.Statement.{statement}
 use Rattle.ramp.proofs.moving.Tie as tie
 
-returns : tie.Need-returns
+returns : tie.Need-returns-then-last-target
 returns c =
     let s = c.before in
-    let same : s.args.last ≡ s.args.target = sym (to_z-of_z s.ranges.last) ∙ ap (to_z w64) c.if1.true ∙ to_z-of_z s.ranges.target in
+    let same : s.args.last ≡ s.args.target = sym (to_z-of_z s.ranges.last) ∙ ap (to_z w64) c.if-last-target.true ∙ to_z-of_z s.ranges.target in
     (omega arith, λ n h. rw same (ramp_level s.args.target n))
 
-returns_2 : tie.Need-returns-2
+returns_2 : tie.Need-returns
 unfolding ramp_at
 returns_2 c = (omega arith, λ n h. rw (lt-leb n seconds_of_ramp h))
 

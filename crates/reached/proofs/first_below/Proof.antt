@@ -11,10 +11,10 @@ use Rattle.reached.proofs.Judging.{ReadTo, read_to_none, read_to_more, read_to_m
 use Rattle.reached.proofs.first_below.Statement.{statement}
 use Rattle.reached.proofs.first_below.Tie as tie
 
-abbrev invariant_loop : tie.invariant-loop
+abbrev invariant_loop : tie.invariant-loop-k
 invariant_loop earlier scores threshold read₀ i₀ width k₀ read i k = (i ≡ i₀) × (k ≤ width) × (read ≡ read₀ + k) × ReadTo threshold (window_at earlier scores i) k
 
-abbrev decreases_loop : tie.decreases-loop
+abbrev decreases_loop : tie.decreases-loop-k
 decreases_loop earlier scores threshold read₀ i₀ width k₀ read i k = width - k
 
 abbrev invariant_seconds : tie.invariant-seconds
@@ -26,41 +26,41 @@ decreases_seconds earlier scores threshold read₀ i₀ read i = length scores -
 seconds_holds : tie.Need-seconds-init invariant_loop decreases_loop invariant_seconds decreases_seconds
 seconds_holds c = (omega arith, omega arith, judging_none _ _ _)
 
-add_width : tie.Need-overflow-add-width invariant_loop decreases_loop invariant_seconds decreases_seconds
+add_width : tie.Need-overflow_add-earlier invariant_loop decreases_loop invariant_seconds decreases_seconds
 add_width c = search rules
 
-width_requires : tie.Need-width-requires invariant_loop decreases_loop invariant_seconds decreases_seconds
+width_requires : tie.Need-width-width-requires invariant_loop decreases_loop invariant_seconds decreases_seconds
 width_requires c κs = search rules
 
-loop_holds : tie.Need-loop-init invariant_loop decreases_loop invariant_seconds decreases_seconds
+loop_holds : tie.Need-loop-k-init invariant_loop decreases_loop invariant_seconds decreases_seconds
 loop_holds c = (refl, omega arith, omega arith, read_to_none _ _)
 
 -- the window is as long as the code says
-long : (l : tie.At-loop invariant_loop decreases_loop invariant_seconds decreases_seconds) →
-    let a = l.before.before.before.before.before.before.args in
-    length (window_at a.earlier.now a.scores.now l.loop.i) ≡ l.before.width.result
+long : (l : tie.At-loop-k invariant_loop decreases_loop invariant_seconds decreases_seconds) →
+    let a = l.args in
+    length (window_at a.earlier.now a.scores.now l.loop-k.i) ≡ l.width-width.result
 long l =
-    let a = l.before.before.before.before.before.before.args in
-    rw l.loop.invariant.0 (window_long a.earlier.now a.scores.now _ (omega arith) ∙ sym l.before.width.ensures)
+    let a = l.args in
+    rw l.loop-k.invariant.0 (window_long a.earlier.now a.scores.now _ (omega arith) ∙ sym l.width-width.ensures)
 
-score_back_requires : tie.Need-score-back-requires invariant_loop decreases_loop invariant_seconds decreases_seconds
-score_back_requires c κs = (omega arith, omega (arith, c.before.before.width.ensures))
+score_back_requires : tie.Need-score_back-score-requires invariant_loop decreases_loop invariant_seconds decreases_seconds
+score_back_requires c κs = (omega arith, omega (arith, c.width-width.ensures))
 
 -- what is read is the window's next score
-read_next : (c : tie.After-score-back invariant_loop decreases_loop invariant_seconds decreases_seconds) →
+read_next : (c : tie.After-score_back-score invariant_loop decreases_loop invariant_seconds decreases_seconds) →
     let l = c.before.before in
-    let a = l.before.before.before.before.before.before.args in
-    get_or (window_at a.earlier.now a.scores.now l.loop.i) l.loop.k 0 ≡ c.score-back.result
+    let a = l.args in
+    get_or (window_at a.earlier.now a.scores.now l.loop-k.i) l.loop-k.k 0 ≡ c.score_back-score.result
 read_next c =
     let l = c.before.before in
-    let a = l.before.before.before.before.before.before.args in
-    let w = l.before.width.ensures in
-    rw c.score-back.ensures (window_at_lem a.earlier.now a.scores.now l.loop.i l.loop.k (omega arith) (omega arith) (omega arith))
+    let a = l.args in
+    let w = l.width-width.ensures in
+    rw c.score_back-score.ensures (window_at_lem a.earlier.now a.scores.now l.loop-k.i l.loop-k.k (omega arith) (omega arith) (omega arith))
 
-add_read : tie.Need-overflow-add-read invariant_loop decreases_loop invariant_seconds decreases_seconds
-add_read c = omega (arith, c.before.before.before.width.ensures)
+add_read : tie.Need-overflow_add-read invariant_loop decreases_loop invariant_seconds decreases_seconds
+add_read c = omega (arith, c.width-width.ensures)
 
-add_i : tie.Need-overflow-add-i invariant_loop decreases_loop invariant_seconds decreases_seconds
+add_i : tie.Need-overflow_add-i invariant_loop decreases_loop invariant_seconds decreases_seconds
 add_i c = search rules
 
 seconds_less : tie.Need-seconds-smaller invariant_loop decreases_loop invariant_seconds decreases_seconds
@@ -71,42 +71,42 @@ seconds_again c =
     let b = c.before in
     let l = b.before.before in
     let o = l.before.before.before in
-    let inv = l.loop.invariant in
+    let inv = l.loop-k.invariant in
     let n = long l in
-    let w = l.before.width.ensures in
-    let met = read_to_met _ _ l.loop.k inv.3 (omega arith) (omega (arith, read_next b)) in
-    let read : l.loop.read + 1 ≡ o.seconds.read + (l.loop.k + 1) = omega arith in
-    let same : o.seconds.i ≡ l.loop.i = sym inv.0 in
+    let w = l.width-width.ensures in
+    let met = read_to_met _ _ l.loop-k.k inv.3 (omega arith) (omega (arith, read_next b)) in
+    let read : l.loop-k.read + 1 ≡ o.seconds.read + (l.loop-k.k + 1) = omega arith in
+    let same : o.seconds.i ≡ l.loop-k.i = sym inv.0 in
     (omega arith, omega arith, rw read (judging_more _ _ _ _ _ (rw same at o.seconds.invariant.2) (omega arith) met))
 
-add_k : tie.Need-overflow-add-k invariant_loop decreases_loop invariant_seconds decreases_seconds
-add_k c = omega (arith, c.before.before.before.before.width.ensures)
+add_k : tie.Need-overflow_add-k invariant_loop decreases_loop invariant_seconds decreases_seconds
+add_k c = omega (arith, c.width-width.ensures)
 
-loop_less : tie.Need-loop-smaller invariant_loop decreases_loop invariant_seconds decreases_seconds
+loop_less : tie.Need-loop-k-smaller invariant_loop decreases_loop invariant_seconds decreases_seconds
 loop_less c = omega arith
 
-loop_again : tie.Need-loop-preserved invariant_loop decreases_loop invariant_seconds decreases_seconds
+loop_again : tie.Need-loop-k-preserved invariant_loop decreases_loop invariant_seconds decreases_seconds
 loop_again c =
     let b = c.before in
     let l = b.before.before in
-    let inv = l.loop.invariant in
+    let inv = l.loop-k.invariant in
     let n = long l in
-    (inv.0, omega arith, omega arith, read_to_more _ _ l.loop.k inv.3 (omega arith) (omega (arith, read_next b)))
+    (inv.0, omega arith, omega arith, read_to_more _ _ l.loop-k.k inv.3 (omega arith) (omega (arith, read_next b)))
 
-add_second : tie.Need-overflow-add-second invariant_loop decreases_loop invariant_seconds decreases_seconds
+add_second : tie.Need-overflow_add-second invariant_loop decreases_loop invariant_seconds decreases_seconds
 add_second c = search rules
 
-returns : tie.Need-returns invariant_loop decreases_loop invariant_seconds decreases_seconds
+returns : tie.Need-returns-then-scores-i invariant_loop decreases_loop invariant_seconds decreases_seconds
 returns c = let o = c.before in sym (judging_all _ _ _ _ _ o.seconds.invariant.2 (omega arith) (omega arith))
 
-returns_2 : tie.Need-returns-2 invariant_loop decreases_loop invariant_seconds decreases_seconds
+returns_2 : tie.Need-returns-after-loop-k invariant_loop decreases_loop invariant_seconds decreases_seconds
 returns_2 c =
     let l = c.before in
     let o = l.before.before.before in
-    let inv = l.loop.invariant in
+    let inv = l.loop-k.invariant in
     let n = long l in
-    let read : l.loop.read ≡ o.seconds.read + l.loop.k = omega arith in
-    let same : o.seconds.i ≡ l.loop.i = sym inv.0 in
+    let read : l.loop-k.read ≡ o.seconds.read + l.loop-k.k = omega arith in
+    let same : o.seconds.i ≡ l.loop-k.i = sym inv.0 in
     rw read (sym (judging_named _ _ _ _ _ (rw same at o.seconds.invariant.2) (omega arith) (read_to_all _ _ _ inv.3 (omega arith))))
 
 pub first_below_spec : {M : Type 1} → statement M

@@ -6,31 +6,31 @@ use Rattle.reached.proofs.Answers.{threshold_fit, hour_verdict, hour_no_verdict}
 use Rattle.reached.proofs.reached.Statement.{statement}
 use Rattle.reached.proofs.reached.Tie as tie
 
-refusal_requires : tie.Need-refusal-requires
+refusal_requires : tie.Need-refusal-number-requires
 refusal_requires c κs = search rules
 
-no_verdict_requires : tie.Need-no-verdict-requires
+no_verdict_requires : tie.Need-no_verdict-requires
 no_verdict_requires c κs = search rules
 
-returns : tie.Need-returns
+returns : tie.Need-returns-then-number-ne0
 returns c =
     let t = c.before in
-    let k = t.before.refusal.ensures in
-    c.no-verdict.ensures ∙ ap no_verdict k ∙ sym (hour_no_verdict _ _ _ (λ z. t.if1.true (k ∙ z)))
+    let k = t.refusal-number.ensures in
+    c.no_verdict.ensures ∙ ap no_verdict k ∙ sym (hour_no_verdict _ _ _ (λ z. t.if-number-ne0.true (k ∙ z)))
 
 -- nothing is refused
-none : (c : tie.Else1) →
-    let a = c.before.before.before.before.args in
+none : (c : tie.Else-number-ne0) →
+    let a = c.args in
     verdict_refusal a.earlier.now a.scores.now a.threshold ≡ 0
-none c = sym c.before.refusal.ensures ∙ c.if1.false
+none c = sym c.refusal-number.ensures ∙ c.if-number-ne0.false
 
-first_below_requires : tie.Need-first-below-requires
+first_below_requires : tie.Need-first_below-requires
 first_below_requires c κs =
-    let a = c.before.before.before.before.args in
+    let a = c.args in
     (threshold_fit a.earlier.now a.scores.now a.threshold (none c)).scored.long
 
-returns_2 : tie.Need-returns-2
-returns_2 c = c.first_below_lem.ensures ∙ sym (hour_verdict _ _ _ (none c.before))
+returns_2 : tie.Need-returns
+returns_2 c = c.first_below.ensures ∙ sym (hour_verdict _ _ _ (none c.before))
 
 pub reached_spec : {M : Type 1} → statement M
 reached_spec =

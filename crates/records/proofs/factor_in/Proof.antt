@@ -11,26 +11,26 @@ use Rattle.records.specs.Inner.{gathered_answer}
 use Rattle.records.proofs.factor_in.Statement.{statement}
 use Rattle.records.proofs.factor_in.Tie as tie
 
-returns : tie.Need-returns
+returns : tie.Need-returns-then-n-gt-BANDS
 unfolding gathered_answer with_factor
-returns c = rw (lt-leb c.before.args.columns.count most_bands c.if1.true, gathered_answer)
+returns c = rw (lt-leb c.args.columns.count most_bands c.if-n-gt-BANDS.true, gathered_answer)
 
 -- each column has 16 places
 places : (c : tie.Start) → (length c.args.columns.thresholds ≡ most_bands) × (length c.args.columns.factors ≡ most_bands)
 places c = (search rules, search rules)
 
-array_share_prefix_thresholds : tie.Need-array-share-prefix-thresholds
+array_share_prefix_thresholds : tie.Need-slice_bounds-thresholds-end
 array_share_prefix_thresholds c = omega (arith, (places c.before.before.before).0)
 
-slice_aggregate_factor : tie.Need-slice-aggregate-factor
+slice_aggregate_factor : tie.Need-slice_bounds-factor-end
 slice_aggregate_factor c =
     let s = c.before.before.before.before in
     sym (length-take-le s.args.columns.count s.args.columns.thresholds (omega (arith, (places s).0)))
 
-array_share_prefix_factors : tie.Need-array-share-prefix-factors
+array_share_prefix_factors : tie.Need-slice_bounds-factors-end
 array_share_prefix_factors c = omega (arith, (places c.before.before.before.before).1)
 
-slice_aggregate_factor_2 : tie.Need-slice-aggregate-factor-2
+slice_aggregate_factor_2 : tie.Need-slice_bounds-factor-end-2
 slice_aggregate_factor_2 c =
     let s = c.before.before.before.before.before in
     sym (length-take-le s.args.columns.count s.args.columns.factors (omega (arith, (places s).1)))
@@ -38,11 +38,11 @@ slice_aggregate_factor_2 c =
 factor_requires : tie.Need-factor-requires
 factor_requires c κs = search rules
 
-returns_2 : tie.Need-returns-2
+returns_2 : tie.Need-returns
 unfolding gathered_answer
 returns_2 c =
     let e = c.before.before.before.before.before in
-    c.factor.ensures ∙ sym (rw (le-leb e.before.args.columns.count most_bands e.if1.false, gathered_answer))
+    c.factor.ensures ∙ sym (rw (le-leb e.args.columns.count most_bands e.if-n-gt-BANDS.false, gathered_answer))
 
 pub factor_in_spec : {M : Type 1} → statement M
 factor_in_spec =

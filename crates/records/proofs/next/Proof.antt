@@ -9,36 +9,36 @@ use Rattle.records.specs.Inner.{next}
 use Rattle.records.proofs.next.Statement.{statement}
 use Rattle.records.proofs.next.Tie as tie
 
-mul_thresholds : tie.Need-overflow-mul-thresholds
+mul_thresholds : tie.Need-offset_bounds-thresholds-at
 mul_thresholds c = search rules
 
-array_set_from_thresholds : tie.Need-array-set-from-thresholds
+array_set_from_thresholds : tie.Need-bounds-thresholds-at
 array_set_from_thresholds c = search rules
 
-mul_factors : tie.Need-overflow-mul-factors
+mul_factors : tie.Need-offset_bounds-factors-at
 mul_factors c = search rules
 
-array_set_from_factors : tie.Need-array-set-from-factors
+array_set_from_factors : tie.Need-bounds-factors-at
 array_set_from_factors c = search rules
 
-add_t9 : tie.Need-overflow-add-t9
+add_t9 : tie.Need-overflow_add-result
 add_t9 c = search rules
 
-threshold_fits : (c : tie.After-struct-told) → SFits w64 c.before.before.before.before.args.band.threshold
+threshold_fits : (c : tie.After-struct_told-1) → SFits w64 c.args.band.threshold
 threshold_fits c = search rules
 
-factor_fits : (c : tie.After-struct-told2) → SFits w64 c.before.before.before.before.before.args.band.factor
+factor_fits : (c : tie.After-struct_told-then-at-lt-BANDS-1) → SFits w64 c.args.band.factor
 factor_fits c = search rules
 
-returns : tie.Need-returns
+returns : tie.Need-returns-then-at-lt-BANDS
 unfolding next
 returns c =
     let s = c.before.before.before.before.before in
-    simp (to_z-of_z (threshold_fits c.before), to_z-of_z (factor_fits c), lt-ltb s.args.columns.count most_bands c.before.before.if1.true, next)
+    simp (to_z-of_z (threshold_fits c.before), to_z-of_z (factor_fits c), lt-ltb s.args.columns.count most_bands c.if-at-lt-BANDS.true, next)
 
-returns_2 : tie.Need-returns-2
+returns_2 : tie.Need-returns
 unfolding next
-returns_2 c = rw (le-ltb c.before.before.before.args.columns.count most_bands c.if1.false, next)
+returns_2 c = rw (le-ltb c.args.columns.count most_bands c.if-at-lt-BANDS.false, next)
 
 pub next_spec : {M : Type 1} → statement M
 next_spec =

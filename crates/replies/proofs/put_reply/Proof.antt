@@ -8,24 +8,24 @@ use borrow.Author.Rules.{rules}
 use Rattle.replies.proofs.put_reply.Statement.{statement}
 use Rattle.replies.proofs.put_reply.Tie as tie
 
-least_requires : tie.Need-least-requires
+least_requires : tie.Need-least-count-requires
 least_requires c κs = search rules
 
-slice_aggregate_reply : tie.Need-slice-aggregate-reply
-slice_aggregate_reply c = sym (length-take-le c.before.least.result _ (omega (arith, c.before.least.ensures)))
+slice_aggregate_reply : tie.Need-slice_bounds-reply-end
+slice_aggregate_reply c = sym (length-take-le c.least-count.result _ (omega (arith, c.least-count.ensures)))
 
-reply_requires : tie.Need-reply-requires
+reply_requires : tie.Need-reply-said-requires
 reply_requires c κs = search rules
 
-same_length : tie.Need-same-length
+same_length : tie.Need-shape_of-out
 same_length c = search rules
 
 returns : tie.Need-returns
 unfolding reply_of
 returns c =
-    let r = c.before.before.reply in
-    let s = c.before.before.before.before.before.before.before in
-    let e = rw (c.before.before.before.before.before.least.ensures, take_least) at r.ensures in
+    let r = c.reply-said in
+    let s = c in
+    let e = rw (c.least-count.ensures, take_least) at r.ensures in
     let d = said s.args.out.now _ _ _ s.requires e.0 e.1.0 in
     (d.0, (d.1, r.ensures.1.1))
 

@@ -7,19 +7,19 @@ use borrow.Author.Rules.{rules}
 use Rattle.replies.proofs.tell.Statement.{statement}
 use Rattle.replies.proofs.tell.Tie as tie
 
-put_reply_requires : tie.Need-put-reply-requires
+put_reply_requires : tie.Need-put_reply-requires
 put_reply_requires c κs = search rules
 
-same_length : tie.Need-same-length
+same_length : tie.Need-shape_of-out-then-ended
 same_length c = search rules
 
-returns : tie.Need-returns
+returns : tie.Need-returns-then-ended
 unfolding tell_text
-returns c = rw c.before.before.before.before.if1.true c.before.before.put-reply.ensures
+returns c = rw c.if-ended.true c.put_reply.ensures
 
-returns_2 : tie.Need-returns-2
+returns_2 : tie.Need-returns
 unfolding tell_text
-returns_2 c = rw c.if1.false (refl, (sym (put_nothing _ 0), omega arith))
+returns_2 c = rw c.if-ended.false (refl, (sym (put_nothing _ 0), omega arith))
 
 pub tell_spec : {M : Type 1} → statement M
 tell_spec = tie.close (tie.spec put_reply_requires same_length returns returns_2)

@@ -11,7 +11,7 @@ few_requires c κs = search rules
 
 returns : tie.Need-returns
 returns c =
-    let dollars : SFits w64 c.before.before.before.args.charged.dollars.0 = search rules in
+    let dollars : SFits w64 c.args.charged.dollars.0 = search rules in
     rw (c.few.ensures, to_z-of_z dollars)
 
 pub charge_spec : {M : Type 1} → statement M

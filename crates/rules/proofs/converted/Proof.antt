@@ -8,41 +8,41 @@ use borrow.Author.Rules.{rules}
 use Rattle.rules.proofs.converted.Statement.{statement}
 use Rattle.rules.proofs.converted.Tie as tie
 
-from_bits_requires : tie.Need-from-bits-requires
+from_bits_requires : tie.Need-from_bits-got-requires
 from_bits_requires c κs = search rules
 
-enum_known_got : tie.Need-enum-known-got
+enum_known_got : tie.Need-enum_known-got
 enum_known_got c = search rules
 
-enum_told : tie.Need-enum-told
+enum_told : tie.Need-enum_told-1
 enum_told c = search rules
 
 few_requires : tie.Need-few-requires
 few_requires c κs = search rules
 
-returns : tie.Need-returns
+returns : tie.Need-returns-in_default
 returns c =
-    let g = c.before.before.before in
-    let a = g.before.args in
-    rw (none_rounded a.frequency a.power (read_refused a.frequency a.power _ (sym g.from-bits.ensures ∙ c.before.enum_told.given.1))) c.few.ensures
+    let g = c.before.before in
+    let a = g.args in
+    rw (none_rounded a.frequency a.power (read_refused a.frequency a.power _ (sym g.from_bits-got.ensures ∙ c.in_default.is))) c.few.ensures
 
-convert_requires : tie.Need-convert-requires
+convert_requires : tie.Need-convert-rounded-requires
 convert_requires c κs = search rules
 
 few_requires_2 : tie.Need-few-requires-2
 few_requires_2 c κs = search rules
 
-returns_2 : tie.Need-returns-2
+returns_2 : tie.Need-returns
 returns_2 c =
     let r = c.before.before.before.before.before in
-    let t = r.before.before in
-    let g = t.before.before in
+    let t = r.before in
+    let g = t.before in
     let s = g.before in
     let a = s.args in
-    let frequency : SFits w64 r.convert.result.frequency.0 = search rules in
-    let power : SFits w64 r.convert.result.power.0 = search rules in
-    let rounded = read_rounded a.frequency a.power _ s.ranges.frequency.fits s.ranges.power.fits (sym g.from-bits.ensures ∙ t.got.given.1) in
-    rw (c.few2.ensures, to_z-of_z frequency, to_z-of_z power, r.convert.ensures, rounded)
+    let frequency : SFits w64 r.convert-rounded.result.frequency.0 = search rules in
+    let power : SFits w64 r.convert-rounded.result.power.0 = search rules in
+    let rounded = read_rounded a.frequency a.power _ s.ranges.frequency.fits s.ranges.power.fits (sym g.from_bits-got.ensures ∙ t.in-Finite.is) in
+    rw (c.few-2.ensures, to_z-of_z frequency, to_z-of_z power, r.convert-rounded.ensures, rounded)
 
 pub converted_spec : {M : Type 1} → statement M
 converted_spec =

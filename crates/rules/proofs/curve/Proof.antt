@@ -9,13 +9,13 @@ use borrow.Author.Rules.{rules}
 use Rattle.rules.proofs.curve.Statement.{statement}
 use Rattle.rules.proofs.curve.Tie as tie
 
-array_copy_out_t6 : tie.Need-array-copy-out-t6
+array_copy_out_t6 : tie.Need-bounds-head-0
 array_copy_out_t6 c = search rules
 
-array_copy_out_t10 : tie.Need-array-copy-out-t10
+array_copy_out_t10 : tie.Need-bounds-head-1
 array_copy_out_t10 c = search rules
 
-curve_requires : tie.Need-curve-requires
+curve_requires : tie.Need-curve-bounds-requires
 curve_requires c κs = search rules
 
 few_requires : tie.Need-few-requires
@@ -24,10 +24,10 @@ few_requires c κs = search rules
 returns : tie.Need-returns
 unfolding curve_reply
 returns c =
-    let r = c.before.before.before.curve in
+    let r = c.curve-bounds in
     let upper : SFits w64 r.result.upper = search rules in
     let lower : SFits w64 r.result.lower = search rules in
-    let head = c.before.before.before.before.before.before.args.t1 in
+    let head = c.args.head in
     let n0 : SFits w64 (get_or head 0 (pos 0)) = search rules in
     let n1 : SFits w64 (get_or head 1 (pos 0)) = search rules in
     rw (c.few.ensures, to_z-of_z upper, to_z-of_z lower, r.ensures, to_z-of_z n0, to_z-of_z n1)

@@ -9,13 +9,13 @@ use borrow.Author.Rules.{rules}
 use Rattle.rules.proofs.factor.Statement.{statement}
 use Rattle.rules.proofs.factor.Tie as tie
 
-array_copy_out_byte_of : tie.Need-array-copy-out-byte-of
+array_copy_out_byte_of : tie.Need-bounds-head-0
 array_copy_out_byte_of c = search rules
 
-byte_of_requires : tie.Need-byte-of-requires
+byte_of_requires : tie.Need-byte_of-rate-requires
 byte_of_requires c κs = search rules
 
-looked_up_requires : tie.Need-looked-up-requires
+looked_up_requires : tie.Need-looked_up-factored-requires
 looked_up_requires c κs = search rules
 
 few_requires : tie.Need-few-requires
@@ -24,10 +24,10 @@ few_requires c κs = search rules
 returns : tie.Need-returns
 unfolding factor_reply
 returns c =
-    let r = c.before.before.looked-up in
+    let r = c.looked_up-factored in
     let factor : SFits w64 r.result.factor = search rules in
-    let n0 : SFits w64 (get_or c.before.before.before.before.before.args.t1 0 (pos 0)) = search rules in
-    rw (c.few.ensures, to_z-of_z factor, r.ensures, c.before.before.before.byte_of.ensures, to_z-of_z n0)
+    let n0 : SFits w64 (get_or c.args.head 0 (pos 0)) = search rules in
+    rw (c.few.ensures, to_z-of_z factor, r.ensures, c.byte_of-rate.ensures, to_z-of_z n0)
 
 pub factor_spec : {M : Type 1} → statement M
 factor_spec =

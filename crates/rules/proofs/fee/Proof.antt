@@ -9,10 +9,10 @@ use borrow.Author.Rules.{rules}
 use Rattle.rules.proofs.fee.Statement.{statement}
 use Rattle.rules.proofs.fee.Tie as tie
 
-array_copy_out_fee : tie.Need-array-copy-out-fee
+array_copy_out_fee : tie.Need-bounds-head-0
 array_copy_out_fee c = search rules
 
-array_copy_out_t9 : tie.Need-array-copy-out-t9
+array_copy_out_t9 : tie.Need-bounds-head-1
 array_copy_out_t9 c = search rules
 
 fee_requires : tie.Need-fee-requires
@@ -24,8 +24,8 @@ charge_requires c κs = search rules
 returns : tie.Need-returns
 unfolding fee_reply
 returns c =
-    let r = c.before.fee in
-    let head = c.before.before.before.before.args.t1 in
+    let r = c.fee in
+    let head = c.args.head in
     let n0 : SFits w64 (get_or head 0 (pos 0)) = search rules in
     let n1 : SFits w64 (get_or head 1 (pos 0)) = search rules in
     rw (c.charge.ensures, r.ensures, to_z-of_z n0, to_z-of_z n1)

@@ -9,10 +9,10 @@ use borrow.Author.Rules.{rules}
 use Rattle.rules.proofs.kilowatts.Statement.{statement}
 use Rattle.rules.proofs.kilowatts.Tie as tie
 
-array_copy_out_t7 : tie.Need-array-copy-out-t7
+array_copy_out_t7 : tie.Need-bounds-head-0
 array_copy_out_t7 c = search rules
 
-to_kilowatts_requires : tie.Need-to-kilowatts-requires
+to_kilowatts_requires : tie.Need-to_kilowatts-converted-requires
 to_kilowatts_requires c κs = search rules
 
 few_requires : tie.Need-few-requires
@@ -21,9 +21,9 @@ few_requires c κs = search rules
 returns : tie.Need-returns
 unfolding kilowatts_reply
 returns c =
-    let r = c.before.before.before.to-kilowatts in
+    let r = c.to_kilowatts-converted in
     let power : SFits w64 r.result.power.0 = search rules in
-    let head = c.before.before.before.before.before.args.t1 in
+    let head = c.args.head in
     let n0 : SFits w64 (get_or head 0 (pos 0)) = search rules in
     rw (c.few.ensures, to_z-of_z power, r.ensures, to_z-of_z n0)
 

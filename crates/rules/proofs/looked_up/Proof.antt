@@ -11,24 +11,24 @@ use borrow.Author.Rules.{rules}
 use Rattle.rules.proofs.looked_up.Statement.{statement}
 use Rattle.rules.proofs.looked_up.Tie as tie
 
-returns : tie.Need-returns
+returns : tie.Need-returns-then-numbers-ne0
 unfolding factor_in
-returns c = rw (no_pairs c.before.args.numbers.now c.if1.true)
+returns c = rw (no_pairs c.args.numbers.now c.if-numbers-ne0.true)
 
-returns_2 : tie.Need-returns-2
+returns_2 : tie.Need-returns-then-n-gt100
 unfolding factor_in
 returns_2 c =
-    let a = c.before.before.args in
+    let a = c.args in
     let n = a.numbers.now in
     let m = length n / 2 in
-    rw (pairs_by n c.before.if1.false) (sym (too_many_lem (column n 0 m) (column n 1 m) a.rate (omega (arith, length_column n 0 m))))
+    rw (pairs_by n c.if-numbers-ne0.false) (sym (too_many_lem (column n 0 m) (column n 1 m) a.rate (omega (arith, length_column n 0 m))))
 
 found_requires : tie.Need-found-requires
 found_requires c κs = search rules
 
-returns_3 : tie.Need-returns-3
+returns_3 : tie.Need-returns
 unfolding factor_in
-returns_3 c = rw (pairs_by c.before.before.before.args.numbers.now c.before.before.if1.false) c.found.ensures
+returns_3 c = rw (pairs_by c.args.numbers.now c.if-numbers-ne0.false) c.found.ensures
 
 pub looked_up_spec : {M : Type 1} → statement M
 looked_up_spec = tie.close (tie.spec returns returns_2 found_requires returns_3)

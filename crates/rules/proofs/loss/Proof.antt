@@ -9,19 +9,19 @@ use borrow.Author.Rules.{rules}
 use Rattle.rules.proofs.loss.Statement.{statement}
 use Rattle.rules.proofs.loss.Tie as tie
 
-array_copy_out_loss_fee : tie.Need-array-copy-out-loss-fee
+array_copy_out_loss_fee : tie.Need-bounds-head-0
 array_copy_out_loss_fee c = search rules
 
-array_copy_out_loss_fee_2 : tie.Need-array-copy-out-loss-fee-2
+array_copy_out_loss_fee_2 : tie.Need-bounds-head-1
 array_copy_out_loss_fee_2 c = search rules
 
-array_copy_out_loss_fee_3 : tie.Need-array-copy-out-loss-fee-3
+array_copy_out_loss_fee_3 : tie.Need-bounds-head-2
 array_copy_out_loss_fee_3 c = search rules
 
-array_copy_out_loss_fee_4 : tie.Need-array-copy-out-loss-fee-4
+array_copy_out_loss_fee_4 : tie.Need-bounds-head-3
 array_copy_out_loss_fee_4 c = search rules
 
-loss_fee_requires : tie.Need-loss-fee-requires
+loss_fee_requires : tie.Need-loss_fee-loss-requires
 loss_fee_requires c κs = search rules
 
 few_requires : tie.Need-few-requires
@@ -30,11 +30,11 @@ few_requires c κs = search rules
 returns : tie.Need-returns
 unfolding loss_reply
 returns c =
-    let r = c.before.before.before.before.before.before.before.loss-fee in
+    let r = c.loss_fee-loss in
     let basic : SFits w64 r.result.basic.0 = search rules in
     let excess : SFits w64 r.result.excess.0 = search rules in
     let total : SFits w64 r.result.total.0 = search rules in
-    let head = c.before.before.before.before.before.before.before.before.before.before.before.before.args.t1 in
+    let head = c.args.head in
     let n0 : SFits w64 (get_or head 0 (pos 0)) = search rules in
     let n1 : SFits w64 (get_or head 1 (pos 0)) = search rules in
     let n2 : SFits w64 (get_or head 2 (pos 0)) = search rules in

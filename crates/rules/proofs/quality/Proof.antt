@@ -9,16 +9,16 @@ use borrow.Author.Rules.{rules}
 use Rattle.rules.proofs.quality.Statement.{statement}
 use Rattle.rules.proofs.quality.Tie as tie
 
-array_copy_out_t6 : tie.Need-array-copy-out-t6
+array_copy_out_t6 : tie.Need-bounds-head-0
 array_copy_out_t6 c = search rules
 
-array_copy_out_t10 : tie.Need-array-copy-out-t10
+array_copy_out_t10 : tie.Need-bounds-head-1
 array_copy_out_t10 c = search rules
 
-array_copy_out_quality_part : tie.Need-array-copy-out-quality-part
+array_copy_out_quality_part : tie.Need-bounds-head-2
 array_copy_out_quality_part c = search rules
 
-quality_part_requires : tie.Need-quality-part-requires
+quality_part_requires : tie.Need-quality_part-requires
 quality_part_requires c κs = search rules
 
 charge_requires : tie.Need-charge-requires
@@ -27,8 +27,8 @@ charge_requires c κs = search rules
 returns : tie.Need-returns
 unfolding quality_reply
 returns c =
-    let r = c.before.quality-part in
-    let head = c.before.before.before.before.before.args.t1 in
+    let r = c.quality_part in
+    let head = c.args.head in
     let n0 : SFits w64 (get_or head 0 (pos 0)) = search rules in
     let n1 : SFits w64 (get_or head 1 (pos 0)) = search rules in
     let n2 : SFits w64 (get_or head 2 (pos 0)) = search rules in

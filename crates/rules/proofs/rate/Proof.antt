@@ -21,24 +21,24 @@ use Rattle.rules.proofs.rate.Tie as tie
 few_requires : tie.Need-few-requires
 few_requires c κs = search rules
 
-returns : tie.Need-returns
+returns : tie.Need-returns-then-not-counted-tail
 unfolding rate_reply
 returns c =
-    let a = c.before.before.args in
+    let a = c.args in
     let t = a.tail.now in
-    let n = not-true (a.counted && eqb (length t) seconds_of_hour) c.before.if1.true in
+    let n = not-true (a.counted && eqb (length t) seconds_of_hour) c.if-not-counted-tail.true-raw in
     c.few.ensures ∙ sym (ap (λ (r : Rated). boxed (reply r.refusal (pos r.rate ∷ []))) (not_asked hourly_rate (no_rate wrong_length) rate_unfit a.counted a.earlier.now t n))
 
 -- they are counted, and as many as the hour's seconds
-whole : (c : tie.Else1) →
-    let a = c.before.args in
+whole : (c : tie.Else-not-counted-tail) →
+    let a = c.args in
     (a.counted ≡ true) × (length a.tail.now ≡ seconds_of_hour)
-whole c = asked_whole _ _ (not-false _ c.if1.false)
+whole c = asked_whole _ _ (not-false _ c.if-not-counted-tail.false-raw)
 
 rated_requires : tie.Need-rated-requires
 rated_requires c κs = (whole c).1
 
-returns_2 : tie.Need-returns-2
+returns_2 : tie.Need-returns
 returns_2 c = rw (whole c.before).0 c.rated.ensures
 
 pub rate_spec : {M : Type 1} → statement M

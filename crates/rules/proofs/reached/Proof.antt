@@ -22,37 +22,37 @@ use Rattle.rules.proofs.reached.Tie as tie
 few_requires : tie.Need-few-requires
 few_requires c κs = search rules
 
-returns : tie.Need-returns
+returns : tie.Need-returns-then-not-counted-tail
 unfolding reached_reply
 returns c =
-    let a = c.before.before.args in
+    let a = c.args in
     let t = a.tail.now in
-    let threshold = byte_of (number a.t1 0) in
-    let n = not-true (a.counted && eqb (length t) seconds_of_hour) c.before.if1.true in
+    let threshold = byte_of (number a.head 0) in
+    let n = not-true (a.counted && eqb (length t) seconds_of_hour) c.if-not-counted-tail.true-raw in
     c.few.ensures
     ∙ sym (ap (λ v. boxed (verdict_reply v)) (not_asked (λ l k. hour_reached l k threshold) (no_verdict wrong_length) (reached_unfit threshold) a.counted a.earlier.now t n))
 
-array_copy_out_byte_of : tie.Need-array-copy-out-byte-of
+array_copy_out_byte_of : tie.Need-bounds-head-0
 array_copy_out_byte_of c = search rules
 
-byte_of_requires : tie.Need-byte-of-requires
+byte_of_requires : tie.Need-byte_of-requires
 byte_of_requires c κs = search rules
 
 -- they are counted, and as many as the hour's seconds
-whole : (c : tie.Else1) →
-    let a = c.before.args in
+whole : (c : tie.Else-not-counted-tail) →
+    let a = c.args in
     (a.counted ≡ true) × (length a.tail.now ≡ seconds_of_hour)
-whole c = asked_whole _ _ (not-false _ c.if1.false)
+whole c = asked_whole _ _ (not-false _ c.if-not-counted-tail.false-raw)
 
 verdict_requires : tie.Need-verdict-requires
 verdict_requires c κs = (whole c.before.before).1
 
-returns_2 : tie.Need-returns-2
+returns_2 : tie.Need-returns
 unfolding reached_reply
 returns_2 c =
-    let a = c.before.before.before.before.args in
-    let n0 : SFits w64 (get_or a.t1 0 (pos 0)) = search rules in
-    let byte = rw (to_z-of_z n0) at c.before.byte_of.ensures in
+    let a = c.args in
+    let n0 : SFits w64 (get_or a.head 0 (pos 0)) = search rules in
+    let byte = rw (to_z-of_z n0) at c.byte_of.ensures in
     rw ((whole c.before.before.before).0, sym byte) c.verdict.ensures
 
 pub reached_spec : {M : Type 1} → statement M

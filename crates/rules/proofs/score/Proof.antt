@@ -9,25 +9,25 @@ use borrow.Author.Rules.{rules}
 use Rattle.rules.proofs.score.Statement.{statement}
 use Rattle.rules.proofs.score.Tie as tie
 
-array_copy_out_few : tie.Need-array-copy-out-few
+array_copy_out_few : tie.Need-bounds-head-0
 array_copy_out_few c = search rules
 
-array_copy_out_t10 : tie.Need-array-copy-out-t10
+array_copy_out_t10 : tie.Need-bounds-head-1
 array_copy_out_t10 c = search rules
 
-array_copy_out_t14 : tie.Need-array-copy-out-t14
+array_copy_out_t14 : tie.Need-bounds-head-2
 array_copy_out_t14 c = search rules
 
-array_copy_out_t18 : tie.Need-array-copy-out-t18
+array_copy_out_t18 : tie.Need-bounds-head-3
 array_copy_out_t18 c = search rules
 
-array_copy_out_t22 : tie.Need-array-copy-out-t22
+array_copy_out_t22 : tie.Need-bounds-head-4
 array_copy_out_t22 c = search rules
 
-second_score_requires : tie.Need-second-score-requires
+second_score_requires : tie.Need-second_score-scored-requires
 second_score_requires c κs = search rules
 
-cast_few : tie.Need-overflow-cast-few
+cast_few : tie.Need-overflow_cast-scored
 cast_few c = search rules
 
 few_requires : tie.Need-few-requires
@@ -36,9 +36,9 @@ few_requires c κs = search rules
 returns : tie.Need-returns
 unfolding score_reply
 returns c =
-    let r = c.before.before.second-score in
+    let r = c.second_score-scored in
     let score = cast_few c.before in
-    let head = c.before.before.before.before.before.before.before.before.args.t1 in
+    let head = c.args.head in
     let n0 : SFits w64 (get_or head 0 (pos 0)) = search rules in
     let n1 : SFits w64 (get_or head 1 (pos 0)) = search rules in
     let n2 : SFits w64 (get_or head 2 (pos 0)) = search rules in

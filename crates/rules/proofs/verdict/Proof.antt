@@ -20,48 +20,48 @@ use borrow.Author.Rules.{rules}
 use Rattle.rules.proofs.verdict.Statement.{statement}
 use Rattle.rules.proofs.verdict.Tie as tie
 
-slice_aggregate_fill_bytes : tie.Need-slice-aggregate-fill-bytes
+slice_aggregate_fill_bytes : tie.Need-slice_bounds-fill_bytes-end
 slice_aggregate_fill_bytes c = search rules
 
-fill_bytes_requires : tie.Need-fill-bytes-requires
+fill_bytes_requires : tie.Need-fill_bytes-requires
 fill_bytes_requires c κs = search rules
 
-first_four_requires : tie.Need-first-four-requires
+first_four_requires : tie.Need-first_four-before-requires
 first_four_requires c κs = search rules
 
 -- the first four, as they are lent
-four : (c : tie.After-first-four) → Lent c.first-four.result
-four c = lent _ c.first-four.ensures
+four : (c : tie.After-first_four-before) → Lent c.first_four-before.result
+four c = lent _ c.first_four-before.ensures
 
-array_share_prefix_first : tie.Need-array-share-prefix-first
+array_share_prefix_first : tie.Need-slice_bounds-first-end
 array_share_prefix_first c = omega (arith, four c.before)
 
-slice_aggregate_reached : tie.Need-slice-aggregate-reached
+slice_aggregate_reached : tie.Need-slice_bounds-reached-end
 slice_aggregate_reached c = omega (arith, four c.before.before)
 
-slice_aggregate_reached_2 : tie.Need-slice-aggregate-reached-2
+slice_aggregate_reached_2 : tie.Need-slice_bounds-reached-end-2
 slice_aggregate_reached_2 c = search rules
 
-reached_requires : tie.Need-reached-requires
+reached_requires : tie.Need-reached-verdict-requires
 reached_requires c κs = search rules
 
-cast_reached : tie.Need-overflow-cast-reached
+cast_reached : tie.Need-overflow_cast-reached
 cast_reached c = search rules
 
 -- its numbers are small
-small : (c : tie.After-reached) → (c.reached.result.second ≤ seconds_of_hour) × (c.reached.result.judged ≤ seconds_of_hour) × (c.reached.result.read ≤ 4 * seconds_of_hour)
-small c = rw c.reached.ensures (answer_within _ _ _)
+small : (c : tie.After-reached-verdict) → (c.reached-verdict.result.second ≤ seconds_of_hour) × (c.reached-verdict.result.judged ≤ seconds_of_hour) × (c.reached-verdict.result.read ≤ 4 * seconds_of_hour)
+small c = rw c.reached-verdict.ensures (answer_within _ _ _)
 
 fits : {n : ℕ} → n ≤ 4 * seconds_of_hour → SFits w64 (pos n)
 fits h = record { sfits = omega arith }
 
-cast_second : tie.Need-overflow-cast-second
+cast_second : tie.Need-overflow_cast-second
 cast_second c = fits (omega (arith, small c.before.before))
 
-cast_judged : tie.Need-overflow-cast-judged
+cast_judged : tie.Need-overflow_cast-judged
 cast_judged c = fits (omega (arith, small c.before.before.before))
 
-cast_read : tie.Need-overflow-cast-read
+cast_read : tie.Need-overflow_cast-read
 cast_read c = fits (small c.before.before.before.before).2
 
 few_requires : tie.Need-few-requires
@@ -78,11 +78,11 @@ returns c =
     let b = d.before.before.before.before in
     let e = b.before.before.before.before in
     let f = e.before.before in
-    let a = f.before.before.args in
-    let scores = scores_filled a.tail.now seconds_of_hour _ f.before.before.requires f.fill-bytes.ensures in
+    let a = f.args in
+    let scores = scores_filled a.tail.now seconds_of_hour _ f.requires f.fill_bytes.ensures in
     let judged =
-    b.reached.ensures
-    ∙ (λ i. hour_reached (taken (e.first-four.ensures i)) (scores i) a.threshold)
+    b.reached-verdict.ensures
+    ∙ (λ i. hour_reached (taken (e.first_four-before.ensures i)) (scores i) a.threshold)
     ∙ four_stand (λ l k. hour_reached l k a.threshold) (no_verdict wrong_length) (reached_unfit a.threshold) (scores_in a.tail.now) a.earlier.now in
     rw (c.few.ensures, said _, to_z-of_z (cast_second d.before.before), to_z-of_z (cast_judged d.before), to_z-of_z (cast_read d), judged)
 

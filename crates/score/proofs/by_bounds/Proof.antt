@@ -28,13 +28,13 @@ output_within power transfer capacity p t c =
     let l : nat_abs n ≤ most_output * nat_abs capacity = omega arith in
     nearest_within n (nat_abs capacity) most_output some l
 
-percent_output_requires : tie.Need-percent-output-requires
+percent_output_requires : tie.Need-percent_output-output-requires
 percent_output_requires c κs = search rules
 
-output_is : (c : tie.After-percent-output) → let a = c.before.args in to_z w64 (of_z w64 c.percent-output.result) ≡ percent_output a.power.0 a.transfer.0 a.capacity.0
-output_is c = back w64 c.percent-output.type-inv c.percent-output.ensures
+output_is : (c : tie.After-percent_output-output) → let a = c.args in to_z w64 (of_z w64 c.percent_output-output.result) ≡ percent_output a.power.0 a.transfer.0 a.capacity.0
+output_is c = back w64 c.percent_output-output.type_inv c.percent_output-output.ensures
 
-score_of_requires : tie.Need-score-of-requires
+score_of_requires : tie.Need-score_of-requires
 score_of_requires c κs =
     let s = c.before in
     let a = s.args in
@@ -43,7 +43,7 @@ score_of_requires c κs =
     (output_within a.power.0 a.transfer.0 a.capacity.0 p.0 p.1.0 p.1.1, s.requires.1.1)
 
 returns : tie.Need-returns
-returns c = let b = c.before in rw (output_is b, to_z-of_z b.before.ranges.upper, to_z-of_z b.before.ranges.lower) at c.score-of.ensures
+returns c = let b = c.before in rw (output_is b, to_z-of_z b.ranges.upper, to_z-of_z b.ranges.lower) at c.score_of.ensures
 
 pub by_bounds_spec : {M : Type 1} → statement M
 by_bounds_spec = tie.close (tie.spec percent_output_requires score_of_requires returns)

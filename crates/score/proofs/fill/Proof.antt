@@ -5,19 +5,19 @@ use Rattle.score.proofs.Run.{run_fit}
 use Rattle.score.proofs.fill.Statement.{statement}
 use Rattle.score.proofs.fill.Tie as tie
 
-pairs_requires : tie.Need-pairs-requires
+pairs_requires : tie.Need-pairs-pairs-requires
 pairs_requires c κs = search rules
 
-slice_aggregate_fill_by : tie.Need-slice-aggregate-fill-by
+slice_aggregate_fill_by : tie.Need-slice_bounds-fill_by-end
 slice_aggregate_fill_by c = search rules
 
 inverse_requires : tie.Need-inverse-requires
-inverse_requires c κs = inside (run_fit _ _ _ _ _ _ c.before.before.before.requires).capacity_fits
+inverse_requires c κs = inside (run_fit _ _ _ _ _ _ c.requires).capacity_fits
 
-fill_by_requires : tie.Need-fill-by-requires
+fill_by_requires : tie.Need-fill_by-requires
 fill_by_requires c κs = search rules
 
-same_length : tie.Need-same-length
+same_length : tie.Need-shape_of-scores
 same_length c = search rules
 
 returns : tie.Need-returns

@@ -13,22 +13,22 @@ use Rattle.score.specs.Inner.{scale, inverse_of}
 use Rattle.score.proofs.inverse.Statement.{statement}
 use Rattle.score.proofs.inverse.Tie as tie
 
-capacity_fits : (c : tie.After-struct-told) → SFits w64 c.before.args.capacity.0
+capacity_fits : (c : tie.After-struct_told-1) → SFits w64 c.args.capacity.0
 capacity_fits c = search rules
 
 size_requires : tie.Need-size-requires
 size_requires c κs = search rules
 
-size_is : (c : tie.After-size) → c.size.result ≡ nat_abs c.before.before.args.capacity.0
+size_is : (c : tie.After-size) → c.size.result ≡ nat_abs c.args.capacity.0
 size_is c = rw (to_z-of_z (capacity_fits c.before)) at c.size.ensures
 
-mul_result : tie.Need-overflow-mul-result
-mul_result c = let e = size_is c in omega (arith, size c.before.before.args.capacity.0)
+mul_result : tie.Need-overflow_mul-result
+mul_result c = let e = size_is c in omega (arith, size c.args.capacity.0)
 
-div_result : tie.Need-nonzero-div-result
-div_result c = let e = size_is c in omega (arith, size c.before.before.args.capacity.0)
+div_result : tie.Need-nonzero_div-result
+div_result c = let e = size_is c in omega (arith, size c.args.capacity.0)
 
-add_result : tie.Need-overflow-add-result
+add_result : tie.Need-overflow_add-result
 add_result c = record { fits = omega (arith, div-le_self scale (2 * c.size.result)) }
 
 returns : tie.Need-returns

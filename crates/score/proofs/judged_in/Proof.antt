@@ -22,64 +22,64 @@ use Rattle.score.proofs.judged_in.Tie as tie
 fit : (s : tie.Start) → let a = s.args in SecondFits a.power a.transfer a.capacity a.frequency a.reference
 fit s = let a = s.args in second_fit a.power a.transfer a.capacity a.frequency a.reference s.requires.1.1
 
-past_first_requires : tie.Need-past-first-requires
+past_first_requires : tie.Need-past_first-requires
 past_first_requires c κs = let f = fit c in record { reference = f.reference; frequency = f.frequency }
 
-place_requires : tie.Need-place-requires
+place_requires : tie.Need-place-k-requires
 place_requires c κs = search rules
 
 -- the frequency that the table is read at, and its place
 abbrev read : tie.Start → ℤ
 read s = moved_back s.args.reference.0 s.args.frequency.0
 
-placed : (c : tie.After-place) → c.place.result ≡ place_at (read c.before.before)
+placed : (c : tie.After-place-k) → c.place-k.result ≡ place_at (read c.before.before)
 placed c =
     let f = c.before in
-    let a = f.before.args in
-    placed_by a.reference.0 a.frequency.0 (back w64 f.past_first.type-inv f.past_first.ensures) c.place.ensures
+    let a = f.args in
+    placed_by a.reference.0 a.frequency.0 (back w64 f.past_first.type_inv f.past_first.ensures) c.place-k.ensures
 
-place_small : (c : tie.After-place) → c.place.result < 501
+place_small : (c : tie.After-place-k) → c.place-k.result < 501
 place_small c = let p = placed c in omega (arith, place_within (read c.before.before))
 
-mul_k : tie.Need-overflow-mul-k
+mul_k : tie.Need-overflow_mul-k
 mul_k c = let p = place_small c in record { fits = omega arith }
 
-shared_slice_copy_out_upper : tie.Need-shared-slice-copy-out-upper
-shared_slice_copy_out_upper c = omega (arith, pair_inside _ c.before.before.requires.1.0 (placed c))
+shared_slice_copy_out_upper : tie.Need-bounds-pairs-k
+shared_slice_copy_out_upper c = omega (arith, pair_inside _ c.requires.1.0 (placed c))
 
-add_lower : tie.Need-overflow-add-lower
+add_lower : tie.Need-overflow_add-lower
 add_lower c = let p = place_small c.before in record { fits = omega arith }
 
-shared_slice_copy_out_lower : tie.Need-shared-slice-copy-out-lower
-shared_slice_copy_out_lower c = pair_inside _ c.before.before.before.requires.1.0 (placed c.before)
+shared_slice_copy_out_lower : tie.Need-bounds-pairs-k-2
+shared_slice_copy_out_lower c = pair_inside _ c.requires.1.0 (placed c.before)
 
-upper_fits : (c : tie.After-upper) → SFits w8 (get_or c.before.before.before.args.pairs.now (2 * c.before.place.result) (pos 0))
+upper_fits : (c : tie.After-upper-1) → SFits w8 (get_or c.args.pairs.now (2 * c.place-k.result) (pos 0))
 upper_fits c = search rules
 
-lower_fits : (c : tie.After-lower) → SFits w8 (get_or c.before.before.before.before.args.pairs.now (2 * c.before.before.place.result + 1) (pos 0))
+lower_fits : (c : tie.After-lower-1) → SFits w8 (get_or c.args.pairs.now (2 * c.place-k.result + 1) (pos 0))
 lower_fits c = search rules
 
 -- the two bounds, as they are read
-upper_read : (c : tie.After-upper) → to_z w8 (of_z w8 (get_or c.before.before.before.args.pairs.now (2 * c.before.place.result) (pos 0))) ≡ upper_at (read c.before.before.before)
-upper_read c = to_z-of_z (upper_fits c) ∙ upper_in _ c.before.before.before.requires.1.0 (placed c.before)
+upper_read : (c : tie.After-upper-1) → to_z w8 (of_z w8 (get_or c.args.pairs.now (2 * c.place-k.result) (pos 0))) ≡ upper_at (read c.before.before.before)
+upper_read c = to_z-of_z (upper_fits c) ∙ upper_in _ c.requires.1.0 (placed c.before)
 
-lower_read : (c : tie.After-lower) → to_z w8 (of_z w8 (get_or c.before.before.before.before.args.pairs.now (2 * c.before.before.place.result + 1) (pos 0))) ≡ lower_at (read c.before.before.before.before)
-lower_read c = to_z-of_z (lower_fits c) ∙ lower_in _ c.before.before.before.before.requires.1.0 (placed c.before.before)
+lower_read : (c : tie.After-lower-1) → to_z w8 (of_z w8 (get_or c.args.pairs.now (2 * c.place-k.result + 1) (pos 0))) ≡ lower_at (read c.before.before.before.before)
+lower_read c = to_z-of_z (lower_fits c) ∙ lower_in _ c.requires.1.0 (placed c.before.before)
 
-cast_upper : tie.Need-overflow-cast-upper
+cast_upper : tie.Need-overflow_cast-upper
 cast_upper c = rw (upper_read c) (within_fits w64 tt (upper_within _))
 
-cast_lower : tie.Need-overflow-cast-lower
+cast_lower : tie.Need-overflow_cast-lower
 cast_lower c = rw (lower_read c) (within_fits w64 tt (lower_within _))
 
 -- as they are handed on
-upper_is : (c : tie.After-upper) → to_z w64 (of_z w64 (to_z w8 (of_z w8 (get_or c.before.before.before.args.pairs.now (2 * c.before.place.result) (pos 0))))) ≡ upper_at (read c.before.before.before)
+upper_is : (c : tie.After-upper-1) → to_z w64 (of_z w64 (to_z w8 (of_z w8 (get_or c.args.pairs.now (2 * c.place-k.result) (pos 0))))) ≡ upper_at (read c.before.before.before)
 upper_is c = to_z-of_z (cast_upper c) ∙ upper_read c
 
-lower_is : (c : tie.After-lower) → to_z w64 (of_z w64 (to_z w8 (of_z w8 (get_or c.before.before.before.before.args.pairs.now (2 * c.before.before.place.result + 1) (pos 0))))) ≡ lower_at (read c.before.before.before.before)
+lower_is : (c : tie.After-lower-1) → to_z w64 (of_z w64 (to_z w8 (of_z w8 (get_or c.args.pairs.now (2 * c.place-k.result + 1) (pos 0))))) ≡ lower_at (read c.before.before.before.before)
 lower_is c = to_z-of_z (cast_lower c) ∙ lower_read c
 
-by_bounds_requires : tie.Need-by-bounds-requires
+by_bounds_requires : tie.Need-by_bounds-requires
 by_bounds_requires c κs =
     let s = c.before.before.before.before in
     let f = fit s in
@@ -88,7 +88,7 @@ by_bounds_requires c κs =
 
 returns : tie.Need-returns
 unfolding judged_by
-returns c = let b = c.before in rw (upper_is b.before, lower_is b) at c.by-bounds.ensures
+returns c = let b = c.before in rw (upper_is b.before, lower_is b) at c.by_bounds.ensures
 
 pub judged_in_spec : {M : Type 1} → statement M
 judged_in_spec =

@@ -11,17 +11,17 @@ use Rattle.score.proofs.ByInverse.{percent_up, percent_down}
 use Rattle.score.proofs.nearest_percent.Statement.{statement}
 use Rattle.score.proofs.nearest_percent.Tie as tie
 
-mul_nearest : tie.Need-overflow-mul-nearest
-mul_nearest c = rw (to_z-of_z c.before.ranges.reach) (omega signed)
+mul_nearest : tie.Need-overflow_mul-reach
+mul_nearest c = rw (to_z-of_z c.ranges.reach) (omega signed)
 
 nearest_requires : tie.Need-nearest-requires
 nearest_requires c κs = search rules
 
-returns : tie.Need-returns
+returns : tie.Need-returns-then-capacity-lt-BY_INVERSE
 returns c =
     let t = c.before in
-    let f = t.before.ranges in
-    back w64 c.nearest.type-inv (rw (to_z-of_z (mul_nearest t), to_z-of_z f.reach, to_z-of_z f.capacity) at c.nearest.ensures)
+    let f = t.ranges in
+    back w64 c.nearest.type_inv (rw (to_z-of_z (mul_nearest t), to_z-of_z f.reach, to_z-of_z f.capacity) at c.nearest.ensures)
 
 size_requires : tie.Need-size-requires
 size_requires c κs = search rules
@@ -29,40 +29,40 @@ size_requires c κs = search rules
 size_requires_2 : tie.Need-size-requires-2
 size_requires_2 c κs = search rules
 
-reach_size : (c : tie.After-size) → c.size.result ≡ nat_abs c.before.before.args.reach
-reach_size c = rw (to_z-of_z c.before.before.ranges.reach) at c.size.ensures
+reach_size : (c : tie.After-size) → c.size.result ≡ nat_abs c.args.reach
+reach_size c = rw (to_z-of_z c.ranges.reach) at c.size.ensures
 
-capacity_size : (c : tie.After-size2) → c.size2.result ≡ nat_abs c.before.before.before.args.capacity
-capacity_size c = rw (to_z-of_z c.before.before.before.ranges.capacity) at c.size2.ensures
+capacity_size : (c : tie.After-size-2) → c.size-2.result ≡ nat_abs c.args.capacity
+capacity_size c = rw (to_z-of_z c.ranges.capacity) at c.size-2.ensures
 
-percents_requires : tie.Need-percents-requires
+percents_requires : tie.Need-percents-size-requires
 percents_requires c κs =
     let e = c.before.before in
-    let a = e.before.args in
+    let a = e.args in
     rw (reach_size c.before, capacity_size c)
-    ((omega (signed, size a.reach), (omega (signed, size a.capacity), omega (signed, size a.capacity))), e.before.requires.1)
+    ((omega (signed, size a.reach), (omega (signed, size a.capacity), omega (signed, size a.capacity))), e.requires.1)
 
-percents_are : (c : tie.After-percents) → let a = c.before.before.before.before.args in c.percents.result ≡ half_up (nat_abs a.reach * 100) (nat_abs a.capacity)
-percents_are c = rw (reach_size c.before.before, capacity_size c.before) at c.percents.ensures.0
+percents_are : (c : tie.After-percents-size) → let a = c.args in c.percents-size.result ≡ half_up (nat_abs a.reach * 100) (nat_abs a.capacity)
+percents_are c = rw (reach_size c.before.before, capacity_size c.before) at c.percents-size.ensures.0
 
-cast_size : tie.Need-overflow-cast-size
+cast_size : tie.Need-overflow_cast-size
 cast_size c = search rules
 
-sub_result : tie.Need-overflow-sub-result
-sub_result c = let p = c.before in let m = p.percents.ensures.1 in omega (signed, bits_pos (cast_size p))
+sub_result : tie.Need-overflow_sub-result
+sub_result c = let p = c.before in let m = p.percents-size.ensures.1 in omega (signed, bits_pos (cast_size p))
 
-returns_2 : tie.Need-returns-2
+returns_2 : tie.Need-returns-then-reach-lt0
 returns_2 c =
     let p = c.before in
-    let a = p.before.before.before.before.args in
+    let a = p.args in
     let q = percents_are p in
     let s = sub_result c in
-    rw (percent_down a.reach (nat_abs a.capacity) (omega signed), ← q) (omega (signed, bits_pos (cast_size p), opposite (pos p.percents.result)))
+    rw (percent_down a.reach (nat_abs a.capacity) (omega signed), ← q) (omega (signed, bits_pos (cast_size p), opposite (pos p.percents-size.result)))
 
-returns_3 : tie.Need-returns-3
+returns_3 : tie.Need-returns
 returns_3 c =
     let p = c.before in
-    let a = p.before.before.before.before.args in
+    let a = p.args in
     rw (percent_up a.reach (nat_abs a.capacity) (omega signed), ← percents_are p) (to_z-of_z (cast_size p))
 
 pub nearest_percent_spec : {M : Type 1} → statement M

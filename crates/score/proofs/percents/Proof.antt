@@ -11,14 +11,14 @@ use Rattle.score.proofs.percents.Tie as tie
 product : (c : tie.Start) → Product (c.args.reach * 200 + c.args.capacity) c.args.capacity
 product c = inverse_product _ c.args.capacity (omega arith) c.requires.0.1.0 c.requires.0.1.1
 
-mul_result : tie.Need-overflow-mul-result
+mul_result : tie.Need-overflow_mul-result
 mul_result c = search rules
 
-add_result : tie.Need-overflow-add-result
+add_result : tie.Need-overflow_add-result
 add_result c = search rules
 
-mul_result_2 : tie.Need-overflow-mul-result-2
-mul_result_2 c = rw c.requires.1 (record { fits = (product c).ranges })
+mul_result_2 : tie.Need-overflow_mul-result-2
+mul_result_2 c = rw c.requires.1 (record { fits = (product c).fits })
 
 returns : tie.Need-returns
 unfolding half_up

@@ -8,23 +8,23 @@ use Rattle.score.specs.Inner.{award_refusal}
 use Rattle.score.proofs.run_refusal.Statement.{statement}
 use Rattle.score.proofs.run_refusal.Tie as tie
 
-seconds_refusal_requires : tie.Need-seconds-refusal-requires
+seconds_refusal_requires : tie.Need-seconds_refusal-seconds-requires
 seconds_refusal_requires c κs =
-    let two = and_both _ _ (and_both _ _ c.if1.true).0 in
+    let two = and_both _ _ (and_both _ _ c.if-frequencies-n.true).0 in
     (eqb-true _ _ two.0, eqb-true _ _ two.1)
 
-award_refusal_requires : tie.Need-award-refusal-requires
+award_refusal_requires : tie.Need-award_refusal-requires
 award_refusal_requires c κs = search rules
 
-returns : tie.Need-returns
+returns : tie.Need-returns-then-frequencies-n
 unfolding run_refusal award_refusal
 returns c =
     let r = c.before in
-    simp (c.award-refusal.ensures, r.seconds-refusal.ensures, r.before.if1.true)
+    simp (c.award_refusal.ensures, r.seconds_refusal-seconds.ensures, r.if-frequencies-n.true)
 
-returns_2 : tie.Need-returns-2
+returns_2 : tie.Need-returns
 unfolding run_refusal
-returns_2 c = sym (rw c.if1.false)
+returns_2 c = sym (rw c.if-frequencies-n.false)
 
 pub run_refusal_spec : {M : Type 1} → statement M
 run_refusal_spec =

@@ -18,7 +18,7 @@ returns : tie.Need-returns
 unfolding second_fits
 returns c =
     let a = c.before.before.before in
-    simp (to_z-of_z a.ranges.power, to_z-of_z a.ranges.frequency, to_z-of_z a.ranges.transfer, c.before.before.within.ensures, c.before.within2.ensures, c.within3.ensures)
+    simp (to_z-of_z a.ranges.power, to_z-of_z a.ranges.frequency, to_z-of_z a.ranges.transfer, c.within.ensures, c.within-2.ensures, c.within-3.ensures)
 
 pub second_fits_spec : {M : Type 1} → statement M
 second_fits_spec = tie.close (tie.spec within_requires within_requires_2 within_requires_3 returns)

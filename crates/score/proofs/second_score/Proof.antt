@@ -6,26 +6,26 @@ use Rattle.score.specs.Score.{second_refusal, second_score}
 use Rattle.score.proofs.second_score.Statement.{statement}
 use Rattle.score.proofs.second_score.Tie as tie
 
-refusal_requires : tie.Need-refusal-requires
+refusal_requires : tie.Need-refusal-k-requires
 refusal_requires c κs = search rules
 
-judged_by_requires : tie.Need-judged-by-requires
+judged_by_requires : tie.Need-judged_by-s-requires
 judged_by_requires c κs = search rules
 
 -- what the refusal is where the second is let through, and where it is not
-granted : (c : tie.Then1) → let a = c.before.before.args in second_refusal a.power a.transfer a.capacity a.frequency a.reference ≡ 0
+granted : (c : tie.Then-k-eq0) → let a = c.args in second_refusal a.power a.transfer a.capacity a.frequency a.reference ≡ 0
 granted c = search rules
 
-refused : (c : tie.Else1) → let a = c.before.before.args in second_refusal a.power a.transfer a.capacity a.frequency a.reference ≡ 0 → ⊥
-refused c z = c.if1.false (c.before.refusal.ensures ∙ z)
+refused : (c : tie.Else-k-eq0) → let a = c.args in second_refusal a.power a.transfer a.capacity a.frequency a.reference ≡ 0 → ⊥
+refused c z = c.if-k-eq0.false (c.refusal-k.ensures ∙ z)
 
-returns : tie.Need-returns
+returns : tie.Need-returns-then-k-eq0
 unfolding second_score
-returns c = rw (c.judged-by.ensures, eq-eqb _ 0 (granted c.before))
+returns c = rw (c.judged_by-s.ensures, eq-eqb _ 0 (granted c.before))
 
-returns_2 : tie.Need-returns-2
+returns_2 : tie.Need-returns
 unfolding second_score
-returns_2 c = rw (c.before.refusal.ensures, ne_eqb _ 0 (refused c))
+returns_2 c = rw (c.refusal-k.ensures, ne_eqb _ 0 (refused c))
 
 pub second_score_spec : {M : Type 1} → statement M
 second_score_spec = tie.close (tie.spec refusal_requires judged_by_requires returns returns_2)

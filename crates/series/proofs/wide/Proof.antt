@@ -4,7 +4,7 @@ use borrow.Author.Rules.{rules}
 use Rattle.series.proofs.wide.Statement.{statement}
 use Rattle.series.proofs.wide.Tie as tie
 
-cast_result : tie.Need-overflow-cast-result
+cast_result : tie.Need-overflow_cast-result
 cast_result c = search rules
 
 returns : tie.Need-returns

@@ -17,47 +17,47 @@ use Rattle.series.proofs.widen.Tie as tie
 abbrev numbers : List ℕ → ℕ → ℤ
 numbers bytes k = pos (get_or bytes k 0)
 
-abbrev invariant_loop : tie.invariant-loop
+abbrev invariant_loop : tie.invariant-loop-i
 invariant_loop bytes run₀ i₀ run i = (length run ≡ length run₀) × (run ≡ filled (numbers bytes) 0 run₀ i) × (i ≤ length run₀)
 
-abbrev decreases_loop : tie.decreases-loop
+abbrev decreases_loop : tie.decreases-loop-i
 decreases_loop bytes run₀ i₀ run i = length run₀ - i
 
-loop_holds : tie.Need-loop-init invariant_loop decreases_loop
+loop_holds : tie.Need-loop-i-init invariant_loop decreases_loop
 loop_holds c = (refl, refl, omega arith)
 
-shared_slice_read_wide : tie.Need-shared-slice-read-wide invariant_loop decreases_loop
+shared_slice_read_wide : tie.Need-bounds-bytes-i invariant_loop decreases_loop
 shared_slice_read_wide c = omega arith
 
-wide_requires : tie.Need-wide-requires invariant_loop decreases_loop
+wide_requires : tie.Need-wide-n-requires invariant_loop decreases_loop
 wide_requires c κs = tt
 
-mul_n : tie.Need-overflow-mul-n invariant_loop decreases_loop
+mul_n : tie.Need-offset_bounds-run-i invariant_loop decreases_loop
 mul_n c = omega arith
 
-slice_set_from_n : tie.Need-slice-set-from-n invariant_loop decreases_loop
+slice_set_from_n : tie.Need-bounds-run-i invariant_loop decreases_loop
 slice_set_from_n c = omega arith
 
-add_i : tie.Need-overflow-add-i invariant_loop decreases_loop
+add_i : tie.Need-overflow_add-i invariant_loop decreases_loop
 add_i c = omega arith
 
-loop_less : tie.Need-loop-smaller invariant_loop decreases_loop
+loop_less : tie.Need-loop-i-smaller invariant_loop decreases_loop
 loop_less c = omega arith
 
-loop_again : tie.Need-loop-preserved invariant_loop decreases_loop
+loop_again : tie.Need-loop-i-preserved invariant_loop decreases_loop
 loop_again c =
-    let l = c.before.before.before.loop in
-    let a = c.before.before.before.before.before.args in
-    (simp length-set l.invariant.0, rw (back w64 c.wide.type-inv c.wide.ensures, l.invariant.1) (filled_next (numbers a.bytes.now) a.run.now l.i (omega arith)), omega arith)
+    let l = c.loop-i in
+    let a = c.args in
+    (simp length-set l.invariant.0, rw (back w64 c.wide-n.type_inv c.wide-n.ensures, l.invariant.1) (filled_next (numbers a.bytes.now) a.run.now l.i (omega arith)), omega arith)
 
-same_length : tie.Need-same-length invariant_loop decreases_loop
-same_length c = c.before.loop.invariant.0
+same_length : tie.Need-shape_of-run invariant_loop decreases_loop
+same_length c = c.loop-i.invariant.0
 
 returns : tie.Need-returns invariant_loop decreases_loop
 returns c =
-    let l = c.before.loop in
-    let a = c.before.before.before.args in
-    let n : l.i ≡ length a.bytes.now = omega (arith, c.before.before.before.requires) in
+    let l = c.loop-i in
+    let a = c.args in
+    let n : l.i ≡ length a.bytes.now = omega (arith, c.requires) in
     let m : l.i ≡ length a.run.now = omega arith in
     l.invariant.1 ∙ filled_all (numbers a.bytes.now) 0 a.run.now l.i m ∙ ap (listed (numbers a.bytes.now) 0) n ∙ wide_all a.bytes.now
 

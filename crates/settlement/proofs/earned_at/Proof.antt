@@ -9,38 +9,38 @@ use Rattle.settlement.proofs.Laws.{at_fit, paid_within}
 use Rattle.settlement.proofs.earned_at.Statement.{statement}
 use Rattle.settlement.proofs.earned_at.Tie as tie
 
-within_requires : tie.Need-within-requires
+within_requires : tie.Need-within-known-requires
 within_requires c κs = search rules
 
-at_refusal_requires : tie.Need-at-refusal-requires
+at_refusal_requires : tie.Need-at_refusal-k-requires
 at_refusal_requires c κs = search rules
 
-refused_hour_requires : tie.Need-refused-hour-requires
+refused_hour_requires : tie.Need-refused_hour-requires
 refused_hour_requires c κs = search rules
 
 -- the number, by the test of the factor
-number_is : (c : tie.After-at-refusal) → let a = c.before.before.args in c.at-refusal.result ≡ at_refusal a.terms (is_factor a.factor) a.energy a.rate
-number_is c = let w = c.before in simp (w.within.ensures, to_z-of_z w.before.ranges.factor) at c.at-refusal.ensures
+number_is : (c : tie.After-at_refusal-k) → let a = c.args in c.at_refusal-k.result ≡ at_refusal a.terms (is_factor a.factor) a.energy a.rate
+number_is c = let w = c in simp (w.within-known.ensures, to_z-of_z w.ranges.factor) at c.at_refusal-k.ensures
 
-returns : tie.Need-returns
+returns : tie.Need-returns-then-k-ne0
 unfolding earned_at
 returns c =
-    let t = c.before in
-    let n = number_is t.before in
-    c.refused-hour.ensures ∙ ap refused_hour n ∙ sym (kept_old _ _ (λ z. t.if1.true (n ∙ z)))
+    let t = c in
+    let n = number_is t.before.before in
+    c.refused_hour.ensures ∙ ap refused_hour n ∙ sym (kept_old _ _ (λ z. t.if-k-ne0.true (n ∙ z)))
 
 -- nothing is refused
-none : (c : tie.Else1) → let a = c.before.before.before.args in at_refusal a.terms (is_factor a.factor) a.energy a.rate ≡ 0
-none c = sym (number_is c.before) ∙ c.if1.false
+none : (c : tie.Else-k-ne0) → let a = c.args in at_refusal a.terms (is_factor a.factor) a.energy a.rate ≡ 0
+none c = sym (number_is c.before) ∙ c.if-k-ne0.false
 
 earned_requires : tie.Need-earned-requires
 earned_requires c κs = paid_within (at_fit _ _ _ _ (none c)).paid
 
-returns_2 : tie.Need-returns-2
+returns_2 : tie.Need-returns
 unfolding earned_at
 returns_2 c =
-    let e = c.before in
-    rw (to_z-of_z e.before.before.before.ranges.factor) at c.earned.ensures ∙ sym (kept_new _ _ (none e))
+    let e = c in
+    rw (to_z-of_z e.ranges.factor) at c.earned.ensures ∙ sym (kept_new _ _ (none e.before))
 
 pub earned_at_spec : {M : Type 1} → statement M
 earned_at_spec =

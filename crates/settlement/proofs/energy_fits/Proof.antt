@@ -9,7 +9,7 @@ use Rattle.settlement.proofs.energy_fits.Tie as tie
 within_requires : tie.Need-within-requires
 within_requires c κs = search rules
 
-fits : (c : tie.After-struct-told) → SFits w64 c.before.args.energy.0
+fits : (c : tie.After-struct_told-1) → SFits w64 c.args.energy.0
 fits c = search rules
 
 returns : tie.Need-returns

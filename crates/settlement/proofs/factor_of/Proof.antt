@@ -8,13 +8,13 @@ use borrow.Author.Rules.{rules}
 use Rattle.settlement.proofs.factor_of.Statement.{statement}
 use Rattle.settlement.proofs.factor_of.Tie as tie
 
-factor_requires : tie.Need-factor-requires
+factor_requires : tie.Need-factor-factored-requires
 factor_requires c κs = search rules
 
 returns : tie.Need-returns
 returns c =
-    let f : SFits w64 c.before.factor.result.factor = search rules in
-    to_z-of_z f ∙ ap (λ (x : Factored). x.factor) c.before.factor.ensures
+    let f : SFits w64 c.factor-factored.result.factor = search rules in
+    to_z-of_z f ∙ ap (λ (x : Factored). x.factor) c.factor-factored.ensures
 
 pub factor_of_spec : {M : Type 1} → statement M
 factor_of_spec = tie.close (tie.spec factor_requires returns)

@@ -11,47 +11,47 @@ use Rattle.settlement.proofs.Laws.{bands_test, at_fit, paid_within}
 use Rattle.settlement.proofs.settled_at.Statement.{statement}
 use Rattle.settlement.proofs.settled_at.Tie as tie
 
-check_requires : tie.Need-check-requires
+check_requires : tie.Need-check-banded-requires
 check_requires c κs = search rules
 
-at_refusal_requires : tie.Need-at-refusal-requires
+at_refusal_requires : tie.Need-at_refusal-k-requires
 at_refusal_requires c κs = search rules
 
-refused_hour_requires : tie.Need-refused-hour-requires
+refused_hour_requires : tie.Need-refused_hour-requires
 refused_hour_requires c κs = search rules
 
 -- the number, by the bands' call
-number_is : (c : tie.After-at-refusal) → let a = c.before.before.args in c.at-refusal.result ≡ at_refusal a.terms (bands_fit a.thresholds.now a.factors.now) a.energy a.rate
+number_is : (c : tie.After-at_refusal-k) → let a = c.args in c.at_refusal-k.result ≡ at_refusal a.terms (bands_fit a.thresholds.now a.factors.now) a.energy a.rate
 number_is c =
-    let check = c.before in
-    let a = check.before.args in
-    simp (check.check.ensures, bands_test a.thresholds.now a.factors.now) at c.at-refusal.ensures
+    let check = c in
+    let a = check.args in
+    simp (check.check-banded.ensures, bands_test a.thresholds.now a.factors.now) at c.at_refusal-k.ensures
 
-returns : tie.Need-returns
+returns : tie.Need-returns-then-k-ne0
 unfolding settled_at
 returns c =
-    let t = c.before in
-    let n = number_is t.before in
-    c.refused-hour.ensures ∙ ap refused_hour n ∙ sym (kept_old _ _ (λ z. t.if1.true (n ∙ z)))
+    let t = c in
+    let n = number_is t.before.before in
+    c.refused_hour.ensures ∙ ap refused_hour n ∙ sym (kept_old _ _ (λ z. t.if-k-ne0.true (n ∙ z)))
 
 -- nothing is refused
-none : (c : tie.Else1) → let a = c.before.before.before.args in at_refusal a.terms (bands_fit a.thresholds.now a.factors.now) a.energy a.rate ≡ 0
-none c = sym (number_is c.before) ∙ c.if1.false
+none : (c : tie.Else-k-ne0) → let a = c.args in at_refusal a.terms (bands_fit a.thresholds.now a.factors.now) a.energy a.rate ≡ 0
+none c = sym (number_is c.before) ∙ c.if-k-ne0.false
 
-factor_of_requires : tie.Need-factor-of-requires
+factor_of_requires : tie.Need-factor_of-requires
 factor_of_requires c κs = search rules
 
 earned_requires : tie.Need-earned-requires
 earned_requires c κs = paid_within (at_fit _ _ _ _ (none c.before)).paid
 
-returns_2 : tie.Need-returns-2
+returns_2 : tie.Need-returns
 unfolding settled_at settled_of
 returns_2 c =
-    let f = c.before in
-    let e = f.before in
-    let a = e.before.before.before.args in
-    let factor = ap (λ (z : ℤ). earned_by a.terms z a.energy a.rate) (back w64 f.factor-of.type-inv f.factor-of.ensures) in
-    c.earned.ensures ∙ factor ∙ sym (kept_new _ _ (none e))
+    let f = c in
+    let e = f in
+    let a = e.args in
+    let factor = ap (λ (z : ℤ). earned_by a.terms z a.energy a.rate) (back w64 f.factor_of.type_inv f.factor_of.ensures) in
+    c.earned.ensures ∙ factor ∙ sym (kept_new _ _ (none e.before.before))
 
 pub settled_at_spec : {M : Type 1} → statement M
 settled_at_spec =

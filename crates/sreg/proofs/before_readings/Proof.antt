@@ -7,22 +7,22 @@ use borrow.Author.Rules.{rules}
 use Rattle.sreg.proofs.before_readings.Statement.{statement}
 use Rattle.sreg.proofs.before_readings.Tie as tie
 
-is_state_requires : tie.Need-is-state-requires
+is_state_requires : tie.Need-is_state-requires
 is_state_requires c κs = search rules
 
-unless_requires : tie.Need-unless-requires
+unless_requires : tie.Need-unless-on_state-requires
 unless_requires c κs = search rules
 
-within_requires : tie.Need-within-requires
+within_requires : tie.Need-within-sized-requires
 within_requires c κs = search rules
 
-unless_requires_2 : tie.Need-unless-requires-2
+unless_requires_2 : tie.Need-unless-on_capacity-requires
 unless_requires_2 c κs = search rules
 
-unless_requires_3 : tie.Need-unless-requires-3
+unless_requires_3 : tie.Need-unless-requires
 unless_requires_3 c κs = search rules
 
-capacity_fits : (c : tie.After-struct-told) → SFits w64 c.before.args.capacity.0
+capacity_fits : (c : tie.After-struct_told-1) → SFits w64 c.args.capacity.0
 capacity_fits c = search rules
 
 returns : tie.Need-returns
@@ -30,12 +30,12 @@ unfolding before_readings
 returns c =
     let u = c.before.before.before in
     simp (
-      c.before.unless2.ensures,
-      c.before.before.within.ensures,
+      c.unless-on_capacity.ensures,
+      c.within-sized.ensures,
       to_z-of_z (capacity_fits u.before.before),
-      u.unless.ensures,
-      u.before.is_state_lem.ensures,
-    ) at c.unless3.ensures
+      u.unless-on_state.ensures,
+      u.is_state.ensures,
+    ) at c.unless.ensures
 
 pub before_readings_spec : {M : Type 1} → statement M
 before_readings_spec =

@@ -8,7 +8,7 @@ within_requires : tie.Need-within-requires
 within_requires c κs = search rules
 
 returns : tie.Need-returns
-returns c = rw (c.within.ensures, to_z-of_z c.before.ranges.power)
+returns c = rw (c.within.ensures, to_z-of_z c.ranges.power)
 
 pub is_power_spec : {M : Type 1} → statement M
 is_power_spec = tie.close (tie.spec within_requires returns)

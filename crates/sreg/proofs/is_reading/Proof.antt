@@ -4,7 +4,7 @@ use borrow.Author.Rules.{rules}
 use Rattle.sreg.proofs.is_reading.Statement.{statement}
 use Rattle.sreg.proofs.is_reading.Tie as tie
 
-is_power_requires : tie.Need-is-power-requires
+is_power_requires : tie.Need-is_power-requires
 is_power_requires c κs = search rules
 
 within_requires : tie.Need-within-requires
@@ -13,7 +13,7 @@ within_requires c κs = search rules
 returns : tie.Need-returns
 returns c =
     let s = c.before.before in
-    rw (c.before.is-power.ensures, c.within.ensures, to_z-of_z s.ranges.power, to_z-of_z s.ranges.frequency)
+    rw (c.is_power.ensures, c.within.ensures, to_z-of_z s.ranges.power, to_z-of_z s.ranges.frequency)
 
 pub is_reading_spec : {M : Type 1} → statement M
 is_reading_spec = tie.close (tie.spec is_power_requires within_requires returns)

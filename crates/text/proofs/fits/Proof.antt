@@ -7,11 +7,11 @@ use Rattle.text.proofs.Places.{fits_from}
 use Rattle.text.proofs.fits.Statement.{statement}
 use Rattle.text.proofs.fits.Tie as tie
 
-returns : tie.Need-returns
-returns c = let a = c.before.args in sym (lt-leb (a.at + a.long) a.room (omega arith))
+returns : tie.Need-returns-then-room-at
+returns c = let a = c.args in sym (lt-leb (a.at + a.long) a.room (omega arith))
 
-returns_2 : tie.Need-returns-2
-returns_2 c = let a = c.before.args in fits_from a.room a.at a.long (omega arith)
+returns_2 : tie.Need-returns
+returns_2 c = let a = c.args in fits_from a.room a.at a.long (omega arith)
 
 pub fits_spec : {M : Type 1} → statement M
 fits_spec = tie.close (tie.spec returns returns_2)

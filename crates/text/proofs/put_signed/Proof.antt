@@ -1,4 +1,4 @@
--- `text::put_signed` meets its contract: by the sign. Assumes nothing.
+-- `text::put_signed` meets its contract: by the sign. What is owed behind the test stands in `tie.spec` itself, so that the test's name is not cited. Assumes nothing.
 use borrow.Author.Rules.{rules}
 use Prim.Native.Nat.{ℕ, ◌+◌, ◌≤◌}
 use native.Mathlib.Omega.{arith}
@@ -16,76 +16,66 @@ use Rattle.text.proofs.put_signed.Statement.{statement}
 use Rattle.text.proofs.put_signed.Tie as tie
 
 -- the sign and the digits, as they stand in the run of signs
-module _ (c : tie.After-put-decimal) where
+module _ (c : tie.After-put_decimal-k) where
   abbrev start : tie.Start
   start = c.before.before.before.before.before
 
   abbrev digits : List ℕ
   digits = decimal_of (nat_abs start.args.z)
 
-  number : decimal_of c.before.size.result ≡ digits
-  number = ap decimal_of (c.before.size.ensures ∙ ap nat_abs (to_z-of_z start.fits.z))
+  number : decimal_of c.size.result ≡ digits
+  number = ap decimal_of (c.size.ensures ∙ ap nat_abs (to_z-of_z start.ranges.z))
 
   short : length digits ≤ 20
-  short = length_size start.fits.z
+  short = length_size start.ranges.z
 
-  place : c.put-decimal.result ≡ 1 + length digits
-  place = c.put-decimal.ensures.0 ∙ ap (place_after (replicate 21 45) 1) number ∙ minus_place digits short
+  place : c.put_decimal-k.result ≡ 1 + length digits
+  place = c.put_decimal-k.ensures.0 ∙ ap (place_after (replicate 21 45) 1) number ∙ minus_place digits short
 
-  run : c.put-decimal.new.0 ≡ with_text (replicate 21 45) 1 digits
-  run = c.put-decimal.ensures.1 ∙ ap (with_text (replicate 21 45) 1) number
+  run : c.put_decimal-k.new.out ≡ with_text (replicate 21 45) 1 digits
+  run = c.put_decimal-k.ensures.1 ∙ ap (with_text (replicate 21 45) 1) number
 
-  inside : c.put-decimal.result ≤ length c.put-decimal.new.0
+  inside : c.put_decimal-k.result ≤ length c.put_decimal-k.new.out
   inside = omega (arith, place, short, ap length run, length_with (replicate 21 45) 1 digits)
 
-  made : take c.put-decimal.result c.put-decimal.new.0 ≡ signed_text start.args.z
-  made = ap₂ (λ (k : ℕ) (r : List ℕ). take k r) place run ∙ minus_text digits short ∙ sym (signed_below start.args.z (omega (signed, bits start.fits.z, c.before.before.before.if1.true)))
+  made : take c.put_decimal-k.result c.put_decimal-k.new.out ≡ signed_text start.args.z
+  made = ap₂ (λ (k : ℕ) (r : List ℕ). take k r) place run ∙ minus_text digits short ∙ sym (signed_below start.args.z (omega (signed, bits start.ranges.z)))
 
-slice_aggregate_put_decimal : tie.Need-slice-aggregate-put-decimal
+slice_aggregate_put_decimal : tie.Need-slice_bounds-put_decimal-end
 slice_aggregate_put_decimal c = search rules
 
 size_requires : tie.Need-size-requires
 size_requires c κs = search rules
 
-put_decimal_requires : tie.Need-put-decimal-requires
+put_decimal_requires : tie.Need-put_decimal-k-requires
 put_decimal_requires c κs = search rules
 
-array_share_prefix_text : tie.Need-array-share-prefix-text
+array_share_prefix_text : tie.Need-slice_bounds-text-end
 array_share_prefix_text c = inside c.before.before
 
-slice_aggregate_put : tie.Need-slice-aggregate-put
+slice_aggregate_put : tie.Need-slice_bounds-put-end
 slice_aggregate_put c = sym (length-take-le _ _ (inside c.before.before.before))
 
 put_requires : tie.Need-put-requires
 put_requires c κs = search rules
 
-same_length : tie.Need-same-length
-same_length c = search rules
-
-returns : tie.Need-returns
-returns c = let p = c.before.before in
-    let d = p.before.before.before.before in
-    let a = d.before.before.before.before.before.args in
-    let t = made d in
-    (p.put.ensures.0 ∙ ap (place_after a.out.now a.at) t, p.put.ensures.1 ∙ ap (with_text a.out.now a.at) t)
-
 size_requires_2 : tie.Need-size-requires-2
 size_requires_2 c κs = search rules
 
-put_decimal_requires_2 : tie.Need-put-decimal-requires-2
+put_decimal_requires_2 : tie.Need-put_decimal-requires
 put_decimal_requires_2 c κs = search rules
 
-same_length_2 : tie.Need-same-length-2
+same_length_2 : tie.Need-shape_of-out
 same_length_2 c = search rules
 
-returns_2 : tie.Need-returns-2
+returns_2 : tie.Need-returns
 returns_2 c = let p = c.before.before in
     let e = p.before.before.before in
     let s = e.before.before in
     let a = s.args in
-    let n = p.before.size2.ensures ∙ ap nat_abs (to_z-of_z s.ranges.z) in
+    let n = p.size-2.ensures ∙ ap nat_abs (to_z-of_z s.ranges.z) in
     let t = ap decimal_of n ∙ sym (signed_above a.z (omega (signed, bits s.ranges.z))) in
-    (p.put-decimal2.ensures.0 ∙ ap (place_after a.out.now a.at) t, p.put-decimal2.ensures.1 ∙ ap (with_text a.out.now a.at) t)
+    (p.put_decimal.ensures.0 ∙ ap (place_after a.out.now a.at) t, p.put_decimal.ensures.1 ∙ ap (with_text a.out.now a.at) t)
 
 pub put_signed_spec : {M : Type 1} → statement M
 put_signed_spec =
@@ -97,8 +87,12 @@ put_signed_spec =
     array_share_prefix_text
     slice_aggregate_put
     put_requires
-    same_length
-    returns
+    (λ c. search rules)
+    (λ c. let p = c.before.before in
+    let d = p.before.before.before.before in
+    let a = d.args in
+    let t = made d in
+    (p.put.ensures.0 ∙ ap (place_after a.out.now a.at) t, p.put.ensures.1 ∙ ap (with_text a.out.now a.at) t))
     size_requires_2
     put_decimal_requires_2
     same_length_2

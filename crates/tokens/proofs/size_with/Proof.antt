@@ -6,23 +6,23 @@ use Rattle.tokens.proofs.Sizes.{digit_small}
 use Rattle.tokens.proofs.size_with.Statement.{statement}
 use Rattle.tokens.proofs.size_with.Tie as tie
 
-mul_result : tie.Need-overflow-mul-result
+mul_result : tie.Need-overflow_mul-result
 mul_result c = search rules
 
-digit_of_requires : tie.Need-digit-of-requires
+digit_of_requires : tie.Need-digit_of-requires
 digit_of_requires c κs = search rules
 
-cast_result : tie.Need-overflow-cast-result
+cast_result : tie.Need-overflow_cast-result
 cast_result c = search rules
 
-add_result : tie.Need-overflow-add-result
+add_result : tie.Need-overflow_add-result
 add_result c = search rules
 
-returns : tie.Need-returns
+returns : tie.Need-returns-then-size-lt922337203685477581
 unfolding size_with
-returns c = omega (arith, c.digit-of.ensures, digit_small c.before.before.args.b c.before.before.requires)
+returns c = omega (arith, c.digit_of.ensures, digit_small c.args.b c.requires)
 
-returns_2 : tie.Need-returns-2
+returns_2 : tie.Need-returns
 unfolding size_with
 returns_2 c = omega arith
 

@@ -4,10 +4,10 @@ use borrow.Author.Rules.{rules}
 use Rattle.words.proofs.hourly.Statement.{statement}
 use Rattle.words.proofs.hourly.Tie as tie
 
-cast_t4 : tie.Need-overflow-cast-t4
+cast_t4 : tie.Need-overflow_cast-result
 cast_t4 c = search rules
 
-mul_t5 : tie.Need-overflow-mul-t5
+mul_t5 : tie.Need-overflow_mul-result
 mul_t5 c = search rules
 
 returns : tie.Need-returns

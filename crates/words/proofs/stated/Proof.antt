@@ -4,13 +4,13 @@ use borrow.Author.Rules.{rules}
 use Rattle.words.proofs.stated.Statement.{statement}
 use Rattle.words.proofs.stated.Tie as tie
 
-cast_t4 : tie.Need-overflow-cast-t4
+cast_t4 : tie.Need-overflow_cast-result
 cast_t4 c = search rules
 
-mul_t5 : tie.Need-overflow-mul-t5
+mul_t5 : tie.Need-overflow_mul-result
 mul_t5 c = search rules
 
-add_t6 : tie.Need-overflow-add-t6
+add_t6 : tie.Need-overflow_add-result
 add_t6 c = search rules
 
 returns : tie.Need-returns

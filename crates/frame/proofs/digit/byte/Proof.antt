@@ -8,14 +8,14 @@ use Rattle.frame.proofs.digit.byte.Tie as tie
 value_requires : tie.Need-value-requires
 value_requires c κs = search rules
 
-mul_result : tie.Need-overflow-mul-result
-mul_result c = omega (arith, value_below _ c.before.requires.0)
+mul_result : tie.Need-overflow_mul-result
+mul_result c = omega (arith, value_below _ c.requires.0)
 
 value_requires_2 : tie.Need-value-requires-2
 value_requires_2 c κs = search rules
 
-add_result : tie.Need-overflow-add-result
-add_result c = omega (arith, value_below _ c.before.before.requires.0, value_below _ c.before.before.requires.1)
+add_result : tie.Need-overflow_add-result
+add_result c = omega (arith, value_below _ c.requires.0, value_below _ c.requires.1)
 
 returns : tie.Need-returns
 returns c = search rules

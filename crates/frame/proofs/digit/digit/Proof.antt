@@ -5,31 +5,31 @@ use mathlib.Core.Bool.{true, false}
 use lib.Dec.{ltb}
 use borrow.Author.Rules.{rules}
 use borrow.Author.Tests.{ltb-true, ltb-false}
-use Rattle.whole.proofs.Choice.{by-test}
+use Rattle.whole.proofs.Choice.{by_test}
 use Rattle.frame.specs.Digits.{hex_digit_of}
 use Rattle.frame.proofs.digit.digit.Statement.{statement}
 use Rattle.frame.proofs.digit.digit.Tie as tie
 
-add_result : tie.Need-overflow-add-result
+add_result : tie.Need-overflow_add-result
 add_result c = search rules
 
-sub_result : tie.Need-overflow-sub-result
+sub_result : tie.Need-overflow_sub-result
 sub_result c = search rules
 
-mul_result : tie.Need-overflow-mul-result
+mul_result : tie.Need-overflow_mul-result
 mul_result c = search rules
 
-sub_result_2 : tie.Need-overflow-sub-result-2
+sub_result_2 : tie.Need-overflow_sub-result-2
 sub_result_2 c = search rules
 
-cast_result : tie.Need-overflow-cast-result
+cast_result : tie.Need-overflow_cast-result
 cast_result c = search rules
 
 returns : tie.Need-returns
 unfolding hex_digit_of
 returns c =
     let v = c.args.value in
-    by-test (ltb v 10)
+    by_test (ltb v 10)
     (λ (t : ltb v 10 ≡ true). rw t (omega (arith, ltb-true v 10 t)))
     (λ (t : ltb v 10 ≡ false). rw t (omega (arith, ltb-false v 10 t)))
 

@@ -10,38 +10,38 @@ use Rattle.frame.proofs.Numbers.{put_start, put_next, put_done}
 use Rattle.frame.proofs.number.put_number.Statement.{statement}
 use Rattle.frame.proofs.number.put_number.Tie as tie
 
-abbrev invariant_loop : tie.invariant-loop
+abbrev invariant_loop : tie.invariant-loop-i
 invariant_loop n run₀ rest₀ i₀ run rest i =
     (i ≤ length run) × (length run ≡ length run₀) × (bytes_in (length run₀) n ≡ bytes_in i rest ++ drop i run)
 
-abbrev decreases_loop : tie.decreases-loop
+abbrev decreases_loop : tie.decreases-loop-i
 decreases_loop n run₀ rest₀ i₀ run rest i = i
 
-loop_holds : tie.Need-loop-init invariant_loop decreases_loop
+loop_holds : tie.Need-loop-i-init invariant_loop decreases_loop
 loop_holds c = (omega arith, refl, put_start _ c.args.run.now)
 
-sub_i : tie.Need-overflow-sub-i invariant_loop decreases_loop
+sub_i : tie.Need-overflow_sub-i invariant_loop decreases_loop
 sub_i c = omega arith
 
-cast_run : tie.Need-overflow-cast-run invariant_loop decreases_loop
+cast_run : tie.Need-overflow_cast-run invariant_loop decreases_loop
 cast_run c = omega arith
 
-slice_write_run : tie.Need-slice-write-run invariant_loop decreases_loop
+slice_write_run : tie.Need-bounds-run-i invariant_loop decreases_loop
 slice_write_run c = omega arith
 
-loop_less : tie.Need-loop-smaller invariant_loop decreases_loop
+loop_less : tie.Need-loop-i-smaller invariant_loop decreases_loop
 loop_less c = omega arith
 
-loop_again : tie.Need-loop-preserved invariant_loop decreases_loop
+loop_again : tie.Need-loop-i-preserved invariant_loop decreases_loop
 loop_again c =
-    let l = c.before.loop in
-    (simp length-set (omega arith), simp length-set l.invariant.1, put_next _ _ _ _ l.invariant.2 c.loop-test.true l.invariant.0)
+    let l = c.loop-i in
+    (simp length-set (omega arith), simp length-set l.invariant.1, put_next _ _ _ _ l.invariant.2 c.loop-i-test.true l.invariant.0)
 
-same_length : tie.Need-same-length invariant_loop decreases_loop
-same_length c = c.before.loop.invariant.1
+same_length : tie.Need-shape_of-run invariant_loop decreases_loop
+same_length c = c.loop-i.invariant.1
 
 returns : tie.Need-returns invariant_loop decreases_loop
-returns c = let l = c.before.loop in put_done _ _ _ _ l.invariant.2 c.loop-test.false
+returns c = let l = c.loop-i in put_done _ _ _ _ l.invariant.2 c.loop-i-test.false
 
 pub put_number_spec : {M : Type 1} → statement M
 put_number_spec =

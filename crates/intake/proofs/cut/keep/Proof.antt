@@ -8,33 +8,33 @@ use Rattle.intake.proofs.Cutting.{kept_next, kept_done}
 use Rattle.intake.proofs.cut.keep.Statement.{statement}
 use Rattle.intake.proofs.cut.keep.Tie as tie
 
-abbrev invariant_loop : tie.invariant-loop
+abbrev invariant_loop : tie.invariant-loop-i
 invariant_loop more kept₀ i₀ kept i = kept_in kept₀ more ≡ kept_in kept (drop i more)
 
-abbrev decreases_loop : tie.decreases-loop
+abbrev decreases_loop : tie.decreases-loop-i
 decreases_loop more kept₀ i₀ kept i = length more - i
 
-loop_holds : tie.Need-loop-init invariant_loop decreases_loop
+loop_holds : tie.Need-loop-i-init invariant_loop decreases_loop
 loop_holds c = refl
 
-shared_slice_read_push : tie.Need-shared-slice-read-push invariant_loop decreases_loop
+shared_slice_read_push : tie.Need-bounds-more-i invariant_loop decreases_loop
 shared_slice_read_push c = omega arith
 
-push_requires : tie.Need-push-requires invariant_loop decreases_loop
+push_requires : tie.Need-push-kept-requires invariant_loop decreases_loop
 push_requires c κs = tt
 
-add_i : tie.Need-overflow-add-i invariant_loop decreases_loop
+add_i : tie.Need-overflow_add-i invariant_loop decreases_loop
 add_i c = omega arith
 
-loop_less : tie.Need-loop-smaller invariant_loop decreases_loop
+loop_less : tie.Need-loop-i-smaller invariant_loop decreases_loop
 loop_less c = omega arith
 
-loop_again : tie.Need-loop-preserved invariant_loop decreases_loop
-loop_again c = let t = c.before.before in
-    rw c.push.ensures (t.before.loop.invariant ∙ kept_next _ _ _ t.loop-test.true)
+loop_again : tie.Need-loop-i-preserved invariant_loop decreases_loop
+loop_again c = let t = c in
+    rw c.push-kept.ensures (t.loop-i.invariant ∙ kept_next _ _ _ t.loop-i-test.true)
 
 returns : tie.Need-returns invariant_loop decreases_loop
-returns c = sym (c.before.loop.invariant ∙ kept_done _ _ _ c.loop-test.false)
+returns c = sym (c.loop-i.invariant ∙ kept_done _ _ _ c.loop-i-test.false)
 
 pub keep_spec : {M : Type 1} → statement M
 keep_spec =

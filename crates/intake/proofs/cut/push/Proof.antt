@@ -5,19 +5,19 @@ use Rattle.intake.specs.Inner.{pushed}
 use Rattle.intake.proofs.cut.push.Statement.{statement}
 use Rattle.intake.proofs.cut.push.Tie as tie
 
-returns : tie.Need-returns
+returns : tie.Need-returns-then-at-ge25
 unfolding pushed
-returns c = rw (le-ltb _ _ c.if1.true)
+returns c = rw (le-ltb _ _ c.if-at-ge25.true)
 
-element_write_next : tie.Need-element-write-next
+element_write_next : tie.Need-bounds-next-at
 element_write_next c = search rules
 
-add_next : tie.Need-overflow-add-next
+add_next : tie.Need-overflow_add-next
 add_next c = search rules
 
-returns_2 : tie.Need-returns-2
+returns_2 : tie.Need-returns
 unfolding pushed
-returns_2 c = rw (lt-ltb _ _ c.if1.false)
+returns_2 c = rw (lt-ltb _ _ c.if-at-ge25.false)
 
 pub push_spec : {M : Type 1} → statement M
 push_spec = tie.close (tie.spec returns element_write_next add_next returns_2)

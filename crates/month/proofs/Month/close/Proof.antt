@@ -16,7 +16,7 @@ head_requires c κs = search rules
 close_requires : tie.Need-close-requires
 close_requires c κs = search rules
 
-with_head_requires : tie.Need-with-head-requires
+with_head_requires : tie.Need-with_head-requires
 with_head_requires c κs = search rules
 
 -- a mark and an amount for each place
@@ -25,13 +25,13 @@ long c = (search rules, search rules)
 
 returns : tie.Need-returns
 returns c =
-    let n = c.before in
-    let h = n.before in
-    let s = h.before in
+    let n = c in
+    let h = n in
+    let s = h in
     let a = s.args in
     let m = a.self in
-    c.with-head.ensures
-    ∙ answer_head m Call.close (long s).0 (long s).1 (λ runs. heads_close (month_head m) m.marks m.amounts runs) _ _ n.close.ensures h.head.ensures
+    c.with_head.ensures
+    ∙ answer_head m Call.close (long s.before.before.before).0 (long s.before.before.before).1 (λ runs. heads_close (month_head m) m.marks m.amounts runs) _ _ n.close.ensures h.head.ensures
 
 pub close_spec : {M : Type 1} → statement M
 close_spec = tie.close (tie.spec head_requires close_requires with_head_requires returns)

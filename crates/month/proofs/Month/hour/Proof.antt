@@ -13,38 +13,38 @@ use borrow.Author.Rules.{rules}
 use Rattle.month.proofs.Month.hour.Statement.{statement}
 use Rattle.month.proofs.Month.hour.Tie as tie
 
-well_formed_requires : tie.Need-well-formed-requires
+well_formed_requires : tie.Need-well_formed-requires
 well_formed_requires c κs = search rules
 
 refused_requires : tie.Need-refused-requires
 refused_requires c κs = search rules
 
-returns : tie.Need-returns
+returns : tie.Need-returns-then-not-well_formed
 unfolding hour_told
-returns c = c.refused.ensures ∙ told_22 c.before.before.before.args.t1 _ c.before.before.well-formed-2.ensures c.before.if1.true
+returns c = c.refused.ensures ∙ told_22 c.args.self _ c.well_formed-2.ensures c.if-not-well_formed.true-raw
 
-formed_here : (c : tie.Else1) → Formed c.before.before.args.t1
-formed_here c = formed _ c.before.well-formed-2.ensures c.if1.false (search rules) (search rules)
+formed_here : (c : tie.Else-not-well_formed) → Formed c.args.self
+formed_here c = formed _ c.well_formed-2.ensures c.if-not-well_formed.false-raw (search rules) (search rules)
 
-head_requires : tie.Need-head-requires
+head_requires : tie.Need-head-head-requires
 head_requires c κs = search rules
 
-place_of_requires : tie.Need-place-of-requires
+place_of_requires : tie.Need-place_of-asked-requires
 place_of_requires c κs = search rules
 
-hour_in_requires : tie.Need-hour-in-requires
+hour_in_requires : tie.Need-hour_in-requires
 hour_in_requires c κs = search rules
 
-returns_2 : tie.Need-returns-2
+returns_2 : tie.Need-returns
 returns_2 c =
-    let o = c.before.before.before.before.before.before in
-    let h = o.before in
-    let e = h.before in
-    let a = e.before.before.args in
-    let m = a.t1 in
-    c.hour-in.ensures
-    ∙ ap₂ (λ (x : Head) (p : ℕ). told_of (hour_in (month_rules x.days) (board_in x m.marks m.amounts) p)) h.head.ensures o.place_of.ensures
-    ∙ hour_told_lem m (formed_here e).well (formed_here e).well-formed a.day a.hour
+    let o = c in
+    let h = o in
+    let e = h in
+    let a = e.args in
+    let m = a.self in
+    c.hour_in.ensures
+    ∙ ap₂ (λ (x : Head) (p : ℕ). told_of (hour_in (month_rules x.days) (board_in x m.marks m.amounts) p)) h.head-head.ensures o.place_of-asked.ensures
+    ∙ hour_told_lem m (formed_here e.before.before.before.before.before.before.before).well (formed_here e.before.before.before.before.before.before.before).good a.day a.hour
 
 pub hour_spec : {M : Type 1} → statement M
 hour_spec =

@@ -11,18 +11,18 @@ use borrow.Author.Rules.{rules}
 use Rattle.month.proofs.Month.«open».Statement.{statement}
 use Rattle.month.proofs.Month.«open».Tie as tie
 
-open_requires : tie.Need-open-requires
+open_requires : tie.Need-open-opened-requires
 open_requires c κs = search rules
 
-booked_of_requires : tie.Need-booked-of-requires
+booked_of_requires : tie.Need-booked_of-requires
 booked_of_requires c κs = search rules
 
 returns : tie.Need-returns
 returns c =
-    let o = c.before.before in
-    c.booked-of.ensures
-    ∙ ap (λ (h : Headed). booked_of h.refusal h.head (replicate month_places false) (replicate month_places (pos 0))) o.«open».ensures
-    ∙ open_is o.before.args.days
+    let o = c in
+    c.booked_of.ensures
+    ∙ ap (λ (h : Headed). booked_of h.refusal h.head (replicate month_places false) (replicate month_places (pos 0))) o.open-opened.ensures
+    ∙ open_is o.args.days
 
 pub open_spec : {M : Type 1} → statement M
 open_spec = tie.close (tie.spec open_requires booked_of_requires returns)

@@ -10,47 +10,47 @@ use borrow.Author.Rules.{rules}
 use Rattle.month.proofs.Month.replace.Statement.{statement}
 use Rattle.month.proofs.Month.replace.Tie as tie
 
-well_formed_requires : tie.Need-well-formed-requires
+well_formed_requires : tie.Need-well_formed-requires
 well_formed_requires c κs = search rules
 
 unreachable_requires : tie.Need-unreachable-requires
 unreachable_requires c κs = search rules
 
-returns : tie.Need-returns
-returns c = c.unreachable.ensures ∙ answer_22 _ _ c.before.before.well-formed-2.ensures c.before.if1.true
+returns : tie.Need-returns-then-not-well_formed
+returns c = c.unreachable.ensures ∙ answer_22 _ _ c.well_formed-2.ensures c.if-not-well_formed.true-raw
 
-formed_here : (c : tie.Else1) → Formed c.before.before.args.self
-formed_here c = formed _ c.before.well-formed-2.ensures c.if1.false (search rules) (search rules)
+formed_here : (c : tie.Else-not-well_formed) → Formed c.args.self
+formed_here c = formed _ c.well_formed-2.ensures c.if-not-well_formed.false-raw (search rules) (search rules)
 
-head_requires : tie.Need-head-requires
+head_requires : tie.Need-head-head-requires
 head_requires c κs = search rules
 
-place_of_requires : tie.Need-place-of-requires
+place_of_requires : tie.Need-place_of-held-requires
 place_of_requires c κs = search rules
 
-slice_aggregate_replace_in : tie.Need-slice-aggregate-replace-in
+slice_aggregate_replace_in : tie.Need-slice_bounds-replace_in-end
 slice_aggregate_replace_in c = search rules
 
-slice_aggregate_replace_in_2 : tie.Need-slice-aggregate-replace-in-2
+slice_aggregate_replace_in_2 : tie.Need-slice_bounds-replace_in-end-2
 slice_aggregate_replace_in_2 c = search rules
 
-replace_in_requires : tie.Need-replace-in-requires
+replace_in_requires : tie.Need-replace_in-k-requires
 replace_in_requires c κs = search rules
 
-booked_of_requires : tie.Need-booked-of-requires
+booked_of_requires : tie.Need-booked_of-requires
 booked_of_requires c κs = search rules
 
-returns_2 : tie.Need-returns-2
+returns_2 : tie.Need-returns
 returns_2 c =
-    let p = c.before.before.before in
-    let o = p.before.before.before in
-    let h = o.before.before.before in
-    let e = h.before in
-    let a = e.before.before.args in
-    c.booked-of.ensures
+    let p = c in
+    let o = p in
+    let h = o in
+    let e = h in
+    let a = e.args in
+    c.booked_of.ensures
     ∙ answer_at a.self (Call.replace a.day a.hour (amount_item a.amount.0)) (Deed.replaces (amount_item a.amount.0)) a.day a.hour
-    (replace_at (rules_of a.self) (board_of a.self) a.day a.hour _ (place_for a.self.days a.day a.hour) (amount_item a.amount.0)) _ _ _ _ _ (formed_here e)
-    h.head.ensures o.place_of.ensures p.replace-in.ensures.0 p.replace-in.ensures.1
+    (replace_at (rules_of a.self) (board_of a.self) a.day a.hour _ (place_for a.self.days a.day a.hour) (amount_item a.amount.0)) _ _ _ _ _ (formed_here e.before.before.before.before.before.before.before.before.before.before)
+    h.head-head.ensures o.place_of-held.ensures p.replace_in-k.ensures.0 p.replace_in-k.ensures.1
 
 pub replace_spec : {M : Type 1} → statement M
 replace_spec =

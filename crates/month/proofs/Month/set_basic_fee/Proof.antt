@@ -14,10 +14,10 @@ use Rattle.month.proofs.Month.set_basic_fee.Tie as tie
 head_requires : tie.Need-head-requires
 head_requires c κs = search rules
 
-set_basic_fee_requires : tie.Need-set-basic-fee-requires
+set_basic_fee_requires : tie.Need-set_basic_fee-requires
 set_basic_fee_requires c κs = search rules
 
-with_head_requires : tie.Need-with-head-requires
+with_head_requires : tie.Need-with_head-requires
 with_head_requires c κs = search rules
 
 -- a mark and an amount for each place
@@ -26,13 +26,13 @@ long c = (search rules, search rules)
 
 returns : tie.Need-returns
 returns c =
-    let n = c.before in
-    let h = n.before in
-    let s = h.before in
+    let n = c in
+    let h = n in
+    let s = h in
     let a = s.args in
     let m = a.self in
-    c.with-head.ensures
-    ∙ answer_head m (Call.loss_fee basic a.amount.0) (long s).0 (long s).1 (λ runs. heads_fee (month_head m) m.marks m.amounts runs basic a.amount.0) _ _ n.set-basic-fee.ensures h.head.ensures
+    c.with_head.ensures
+    ∙ answer_head m (Call.loss_fee basic a.amount.0) (long s.before.before.before).0 (long s.before.before.before).1 (λ runs. heads_fee (month_head m) m.marks m.amounts runs basic a.amount.0) _ _ n.set_basic_fee.ensures h.head.ensures
 
 pub set_basic_fee_spec : {M : Type 1} → statement M
 set_basic_fee_spec = tie.close (tie.spec head_requires set_basic_fee_requires with_head_requires returns)

@@ -16,19 +16,19 @@ use borrow.Author.Rules.{rules}
 use Rattle.month.proofs.Month.total.Statement.{statement}
 use Rattle.month.proofs.Month.total.Tie as tie
 
-head_requires : tie.Need-head-requires
+head_requires : tie.Need-head-head-requires
 head_requires c κs = search rules
 
-total_in_requires : tie.Need-total-in-requires
+total_in_requires : tie.Need-total_in-requires
 total_in_requires c κs = search rules
 
 returns : tie.Need-returns
 returns c =
-    let h = c.before.before.before.before.before.before in
-    let m = h.before.args.t1 in
+    let h = c in
+    let m = h.args.self in
     let runs : runs_fit (rules_of m) (board_of m) ≡ true = both (eq-eqb (length m.marks) month_places (search rules)) (eq-eqb (length m.amounts) month_places (search rules)) in
-    c.total-in.ensures
-    ∙ ap (λ (x : Head). told_of (total_in (month_rules x.days) (board_in x m.marks m.amounts))) h.head.ensures
+    c.total_in.ensures
+    ∙ ap (λ (x : Head). told_of (total_in (month_rules x.days) (board_in x m.marks m.amounts))) h.head-head.ensures
     ∙ total_is_lem m runs
 
 pub total_spec : {M : Type 1} → statement M

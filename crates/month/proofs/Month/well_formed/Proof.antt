@@ -17,18 +17,18 @@ use Rattle.month.specs.Month.{rules_of, board_of}
 use Rattle.month.proofs.Month.well_formed.Statement.{statement}
 use Rattle.month.proofs.Month.well_formed.Tie as tie
 
-head_requires : tie.Need-head-requires
+head_requires : tie.Need-head-head-requires
 head_requires c κs = search rules
 
-check_in_requires : tie.Need-check-in-requires
+check_in_requires : tie.Need-check_in-requires
 check_in_requires c κs = search rules
 
 returns : tie.Need-returns
 returns c =
-    let h = c.before.before.before.before.before.before in
-    let m = h.before.args.t1 in
+    let h = c in
+    let m = h.args.self in
     let runs : runs_fit (rules_of m) (board_of m) ≡ true = both (eq-eqb (length m.marks) month_places (search rules)) (eq-eqb (length m.amounts) month_places (search rules)) in
-    let number = c.check-in.ensures ∙ ap (λ (x : Head). ledger_refusal (month_rules x.days) (board_in x m.marks m.amounts)) h.head.ensures in
+    let number = c.check_in.ensures ∙ ap (λ (x : Head). ledger_refusal (month_rules x.days) (board_in x m.marks m.amounts)) h.head-head.ensures in
     ap (λ (k : ℕ). eqb k 0) number ∙ ledger_test (rules_of m) (board_of m) runs
 
 pub well_formed_spec : {M : Type 1} → statement M

@@ -9,26 +9,26 @@ use borrow.Author.Rules.{rules}
 use Rattle.question.proofs.parts.rest.Statement.{statement}
 use Rattle.question.proofs.parts.rest.Tie as tie
 
-mul_result : tie.Need-overflow-mul-result
+mul_result : tie.Need-offset_bounds-numbers-at
 mul_result c = search rules
 
-sub_result : tie.Need-overflow-sub-result
+sub_result : tie.Need-slice_bounds-result-count
 sub_result c = search rules
 
-part_result_start : tie.Need-slice-bounds-result-start
+part_result_start : tie.Need-slice_bounds-result-start
 part_result_start c = search rules
 
-part_result_end : tie.Need-slice-bounds-result-end
+part_result_end : tie.Need-slice_bounds-result-end
 part_result_end c = search rules
 
-returns : tie.Need-returns
-returns c = let n = c.before.before.args.numbers.now in let k = c.before.before.args.at in take_all (length n - k) (drop k n) (omega (arith, length-drop k n))
+returns : tie.Need-returns-then-at-numbers
+returns c = let n = c.args.numbers.now in let k = c.args.at in take_all (length n - k) (drop k n) (omega (arith, length-drop k n))
 
-slice_aggregate_result : tie.Need-slice-aggregate-result
+slice_aggregate_result : tie.Need-slice_bounds-result-end-2
 slice_aggregate_result c = search rules
 
-returns_2 : tie.Need-returns-2
-returns_2 c = sym (no_rest c.before.before.args.numbers.now c.before.before.args.at (omega arith))
+returns_2 : tie.Need-returns
+returns_2 c = sym (no_rest c.args.numbers.now c.args.at (omega arith))
 
 pub rest_spec : {M : Type 1} → statement M
 rest_spec =

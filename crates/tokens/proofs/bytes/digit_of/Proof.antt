@@ -4,11 +4,11 @@ use Rattle.tokens.specs.Bytes.{digit_of}
 use Rattle.tokens.proofs.bytes.digit_of.Statement.{statement}
 use Rattle.tokens.proofs.bytes.digit_of.Tie as tie
 
-returns : tie.Need-returns
+returns : tie.Need-returns-then-b-lt48
 unfolding digit_of
 returns c = omega arith
 
-returns_2 : tie.Need-returns-2
+returns_2 : tie.Need-returns-else-b-lt48
 unfolding digit_of
 returns_2 c = omega arith
 
