@@ -21,13 +21,11 @@ pub(crate) fn by_value(days: u8, closed: bool, calls: u64) -> u64 {
     let mut m = opened(days, closed);
     let mut x = 1;
     let mut sum = 0;
-    let mut i = 0;
-    while i < calls {
+    for _ in 0..calls {
         x = chance::next(x);
         let b = called(m, draw::by_chance(x));
         m = b.month;
         sum = chance::mixed(sum, b.refusal as u64);
-        i += 1;
     }
     draw::with_amounts(sum, &m.amounts)
 }
@@ -35,12 +33,10 @@ pub(crate) fn by_value(days: u8, closed: bool, calls: u64) -> u64 {
 fn calls_in(head: Head, marks: &mut [bool], amounts: &mut [i64], ordered: bool, calls: u64) -> u64 {
     let mut x = 1;
     let mut sum = 0;
-    let mut i = 0;
-    while i < calls {
+    for i in 0..calls {
         x = chance::next(x);
         let k = call_in(head, marks, amounts, chosen(ordered, x, i));
         sum = chance::mixed(sum, k as u64);
-        i += 1;
     }
     draw::with_amounts(sum, amounts)
 }

@@ -3,7 +3,7 @@ use crate::chance;
 
 // A call: a post (0 to 2), a replace (3, 4) or a withdraw (5 to 7), on a day of 0 to 31 and an hour of 0 to 24, with
 // an amount that now and then is past its limits.
-#[derive(Drop)]
+#[derive(Clone, Copy)]
 pub struct Drawn {
     pub kind: u8,
     pub day: u8,
@@ -34,11 +34,8 @@ pub(crate) fn in_order(i: u64) -> Drawn {
 // The sum with every place's amount.
 pub(crate) fn with_amounts(sum: u64, amounts: &[i64]) -> u64 {
     let mut s = sum;
-    let mut p = 0;
-    while p < amounts.len() {
-        let a = amounts[p];
-        s = chance::with_number(s, a);
-        p += 1;
+    for amount in amounts {
+        s = chance::with_number(s, *amount);
     }
     s
 }

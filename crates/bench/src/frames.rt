@@ -10,12 +10,10 @@ pub(crate) fn write(calls: u64) -> u64 {
     let mut line = [b'0'; 24];
     let mut x = 1;
     let mut sum = 0;
-    let mut i = 0;
-    while i < calls {
+    for i in 0..calls {
         x = chance::next(x);
         let refusal = frame::write_frame(lines::entry(x), &mut line);
         sum = lines::with_line(sum, refusal, &line, i);
-        i += 1;
     }
     sum
 }
@@ -38,12 +36,10 @@ fn room() -> [u8; 24576]
 fn make_lines(lines: &mut [u8]) {
     let mut x = 1;
     let mut at = 0;
-    let mut i = 0;
-    while i < LINES {
+    for _ in 0..LINES {
         x = chance::next(x);
         let line = lines::line(x);
         at = text::put(lines, at, &line);
-        i += 1;
     }
 }
 
@@ -52,12 +48,10 @@ fn read(lines: &[u8], calls: u64) -> u64
     requires { length lines.now ≡ 24576 }
 {
     let mut sum = 0;
-    let mut i = 0;
-    while i < calls {
+    for i in 0..calls {
         let at = (i % LINES * 24) as usize;
         let end = at + 24;
         sum = lines::with_reading(sum, frame::read_frame(&lines[at..end]));
-        i += 1;
     }
     sum
 }

@@ -57,8 +57,7 @@ fn hours(
 ) -> u64 {
     let mut x = 2;
     let mut sum = 0;
-    let mut n = 0;
-    while n < count {
+    for n in 0..count {
         x = chance::next(x);
         redraw(powers, n, x, capacity, transfers);
         sum = with_hour(
@@ -71,7 +70,6 @@ fn hours(
             shift,
             scores,
         );
-        n += 1;
     }
     sums::with_scores(sum, scores)
 }

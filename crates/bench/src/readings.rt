@@ -14,7 +14,7 @@ const CAPACITIES: u64 = limits::CAPACITY as u64 + 1;
 const POWER: u64 = limits::POWER as u64;
 
 // What a run has: a frequency that wanders, one by chance, sReg's consumption.
-#[derive(Drop)]
+#[derive(Clone, Copy)]
 pub(crate) enum Rule {
     Wandering,
     ByChance,
@@ -29,24 +29,18 @@ pub(crate) fn drawn(second: usize, x: u64, capacity: u64, transfers: &[i64]) -> 
 
 pub(crate) fn fill_powers(powers: &mut [i64], capacity: u64, transfers: &[i64]) {
     let mut x = 1;
-    let mut i = 0;
-    while i < powers.len() {
+    for i in 0..powers.len() {
         x = chance::next(x);
-        let p = drawn(i, x, capacity, transfers);
-        powers[i] = p;
-        i += 1;
+        powers[i] = drawn(i, x, capacity, transfers);
     }
 }
 
 // A run's values, drawn by the numbers after the first.
 pub(crate) fn fill(run: &mut [i64], rule: Rule, first: u64) {
     let mut x = first;
-    let mut i = 0;
-    while i < run.len() {
+    for i in 0..run.len() {
         x = chance::next(x);
-        let value = value_at(rule, i, x);
-        run[i] = value;
-        i += 1;
+        run[i] = value_at(rule, i, x);
     }
 }
 

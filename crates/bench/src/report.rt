@@ -1,17 +1,15 @@
 // The numbers that are read, and the lines that are printed.
+use std::io;
 
 // The number that stands after that many spaces.
 pub(crate) fn count(input: &[u8], after: usize) -> u64 {
     let mut n: u64 = 0;
     let mut spaces: usize = 0;
-    let mut i = 0;
-    while i < input.len() {
-        let b = input[i];
-        spaces = with_space(spaces, b);
+    for b in input {
+        spaces = with_space(spaces, *b);
         if spaces == after {
-            n = with_digit(n, b);
+            n = with_digit(n, *b);
         }
-        i += 1;
     }
     n
 }
@@ -21,13 +19,8 @@ pub(crate) fn days(n: u64) -> u8 {
     (28 + n % 4) as u8
 }
 
-pub(crate) fn line(way: &[u8], calls: u64, sum: u64) {
-    io::write_all(1, way);
-    io::write_all(1, b" ");
-    io::print_decimal(1, calls);
-    io::write_all(1, b" ");
-    io::print_decimal(1, sum);
-    io::write_all(1, b"\n");
+pub(crate) fn line(rt: &impl Print, way: &str, calls: u64, sum: u64) -> io::Result<()> {
+    println!(rt; "{way} {calls} {sum}")
 }
 
 fn with_space(spaces: usize, b: u8) -> usize {

@@ -33,14 +33,12 @@ fn each(
     let mut x = 2;
     let mut sum = 0;
     let mut state = EventState::Outside;
-    let mut n = 0;
-    while n < count {
+    for n in 0..count {
         x = chance::next(x);
         redraw(powers, n, x);
         let s = settled(powers, frequencies, terms, state, scores);
         state = s.state;
         sum = sums::with_settled(sum, s);
-        n += 1;
     }
     sums::with_scores(sum, scores)
 }

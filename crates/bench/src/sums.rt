@@ -25,11 +25,8 @@ pub(crate) fn with_settled(sum: u64, s: Settled) -> u64 {
 // The sum with every score.
 pub(crate) fn with_scores(sum: u64, scores: &[u8]) -> u64 {
     let mut m = sum;
-    let mut i = 0;
-    while i < scores.len() {
-        let s = scores[i];
-        m = with_score(m, s);
-        i += 1;
+    for score in scores {
+        m = with_score(m, *score);
     }
     m
 }

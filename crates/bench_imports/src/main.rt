@@ -6,9 +6,13 @@
 // has in `import` and in `ledger`. In one program with `bench`, the reader and the writer of a line would have two
 // each.
 // A program cannot lend another its module, so chance.rt is bench's.
+#![tactic(auto)]
+
 mod chance;
 
 use logger::Imported;
+use std::io;
+use std::io::Read;
 use units::limits;
 
 // The digits of a line, and its end.
@@ -16,16 +20,11 @@ const LINE: u64 = 25;
 
 const LINES: u64 = logger::LINES as u64;
 
-fn main() {
-    let mut input = io::large_buffer();
-    let got = libc::read(0, &mut input);
-    let count = io::count(got, &input) as u64;
+fn main(rt: HostRuntime) -> io::Result<()> {
+    let mut input = [0u8; 65536];
+    let count = rt.stdin().read(&mut input)? as u64;
     let sum = run(count);
-    io::write_all(1, b"imported ");
-    io::print_decimal(1, count);
-    io::write_all(1, b" ");
-    io::print_decimal(1, sum);
-    io::write_all(1, b"\n");
+    println!(rt; "imported {count} {sum}")
 }
 
 // The sum of every answer, and of both runs as the last import leaves them.
@@ -40,24 +39,20 @@ fn run(count: u64) -> u64 {
 
 fn draw_lines(file: &mut [u8]) {
     let mut x = 1;
-    let mut i = 0;
-    while i < LINES {
+    for i in 0..LINES {
         x = chance::next(x);
         draw_line(file, i, x);
-        i += 1;
     }
 }
 
 fn each(file: &mut [u8], frequencies: &mut [i64], powers: &mut [i64], count: u64) -> u64 {
     let mut x = 2;
     let mut sum = 0;
-    let mut n = 0;
-    while n < count {
+    for n in 0..count {
         x = chance::next(x);
         draw_line(file, n % LINES, x);
         let answer = logger::import(file, frequencies, powers);
         sum = with_answer(sum, answer);
-        n += 1;
     }
     sum
 }
@@ -100,11 +95,8 @@ fn with_answer(sum: u64, answer: Imported) -> u64 {
 // The sum with every number of a run.
 fn with_run(sum: u64, run: &[i64]) -> u64 {
     let mut m = sum;
-    let mut i = 0;
-    while i < run.len() {
-        let z = run[i];
-        m = chance::with_number(m, z);
-        i += 1;
+    for z in run {
+        m = chance::with_number(m, *z);
     }
     m
 }

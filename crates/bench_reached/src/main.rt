@@ -5,9 +5,13 @@
 //
 // It is a program of its own, so that the others' code comes to lie where it lay; a program cannot lend another its
 // module, so chance.rt is a copy of part of bench's.
+#![tactic(auto)]
+
 mod chance;
 
 use reached::Verdict;
+use std::io;
+use std::io::Read;
 use units::limits;
 
 // The scores of the hour before.
@@ -16,19 +20,14 @@ const EARLIER: [u8; 4] = [90, 91, 100, 100];
 // The last four seconds.
 const LATE: usize = limits::SECONDS - 4;
 
-fn main() {
-    let mut input = io::large_buffer();
-    let got = libc::read(0, &mut input);
-    let count = io::count(got, &input) as u64;
+fn main(rt: HostRuntime) -> io::Result<()> {
+    let mut input = [0u8; 65536];
+    let count = rt.stdin().read(&mut input)? as u64;
     let kind = input[0];
     let threshold = input[1];
     let before = input[2];
     let sum = run(kind, threshold, before, count);
-    io::write_all(1, b"asked ");
-    io::print_decimal(1, count);
-    io::write_all(1, b" ");
-    io::print_decimal(1, sum);
-    io::write_all(1, b"\n");
+    println!(rt; "asked {count} {sum}")
 }
 
 // The sum of every answer.
@@ -42,25 +41,20 @@ fn run(kind: u8, threshold: u8, before: u8, count: u64) -> u64 {
 
 fn draw(scores: &mut [u8], kind: u8) {
     let mut x = 1;
-    let mut i = 0;
-    while i < scores.len() {
+    for i in 0..scores.len() {
         x = chance::next(x);
-        let score = drawn(kind, i, x);
-        scores[i] = score;
-        i += 1;
+        scores[i] = drawn(kind, i, x);
     }
 }
 
 fn each(earlier: &[u8], scores: &mut [u8], kind: u8, threshold: u8, count: u64) -> u64 {
     let mut x = 2;
     let mut sum = 0;
-    let mut n = 0;
-    while n < count {
+    for n in 0..count {
         x = chance::next(x);
         redraw(scores, kind, (n % limits::SECONDS as u64) as usize, x);
         let answer = reached::reached(earlier, scores, threshold);
         sum = with_answer(sum, answer);
-        n += 1;
     }
     sum
 }

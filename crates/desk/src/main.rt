@@ -1,14 +1,18 @@
 // The program `desk`: reads, feeds what it read to crates/replies, writes what that answers, and stops.
-ghost use Rattle.std.specs.Prelude.{◌≤◌, length, ◌≡◌};
+#![tactic(auto)]
+
+ghost use Rattle.std.specs.Prelude.{◌≤◌, length, ◌≡◌, IfOk};
 
 use asked::State;
+use std::io;
+use std::io::{Read, Write};
+use std::process::ExitCode;
 
-// The state after a read; whether there is more to read; whether a read or a write failed.
+// The state after a read, and whether there is more to read.
 #[derive(Drop)]
 struct Turn {
     state: State,
     more: bool,
-    failed: bool,
 }
 
 // The state after a call, and how far the chunk is read.
@@ -16,7 +20,6 @@ struct Turn {
 struct Step {
     state: State,
     from: usize,
-    failed: bool,
 }
 
 // The numbers of a question.
@@ -34,94 +37,98 @@ fn room() -> [u8; 32768]
 }
 
 // Feeds what stands from a place of the chunk on, and writes what that answers.
-fn feed_on(state: State, chunk: &[u8], from: usize, numbers: &mut [i64], out: &mut [u8]) -> Step
+fn feed_on(
+    writer: &mut impl Write,
+    state: State,
+    chunk: &[u8],
+    from: usize,
+    numbers: &mut [i64],
+    out: &mut [u8],
+) -> io::Result<Step>
     requires { from ≤ length chunk.now }
-    ensures { result.from ≤ length chunk.now }
+    ensures { IfOk result (λ step. step.from ≤ length chunk.now) }
 {
     let fed = replies::feed(state, &chunk[from..], numbers, out);
-    let next = fed.state;
-    let written = fed.written;
-    let wrote = io::write_all(1, &out[..written]);
-    Step {
-        state: next,
+    writer.write_all(&out[..fed.written])?;
+    Ok(Step {
+        state: fed.state,
         from: from + fed.taken,
-        failed: !wrote,
-    }
+    })
 }
 
 // Answers the questions that end in a chunk.
-fn answer_all(state: State, chunk: &[u8], numbers: &mut [i64], out: &mut [u8]) -> Step {
-    let mut now = Step {
-        state,
-        from: 0,
-        failed: false,
-    };
-    // A proved loop has to end: it counts its steps down, from a number that no chunk uses up.
-    let mut steps = u64::MAX;
-    while (now.from < chunk.len()) & !now.failed & (0 < steps) {
-        let state = now.state;
-        now = feed_on(state, chunk, now.from, numbers, out);
-        steps -= 1;
+fn answer_all(
+    writer: &mut impl Write,
+    state: State,
+    chunk: &[u8],
+    numbers: &mut [i64],
+    out: &mut [u8],
+) -> io::Result<State> {
+    let mut now = Step { state, from: 0 };
+    for _ in 0..u64::MAX {
+        if now.from == chunk.len() {
+            break;
+        }
+        now = feed_on(writer, now.state, chunk, now.from, numbers, out)?;
     }
-    now
+    Ok(now.state)
 }
 
 // One read, and the answers to the questions that end in it.
-fn read_once(state: State, input: &mut [u8], numbers: &mut [i64], out: &mut [u8]) -> Turn {
-    let got = libc::read(0, input);
-    if got < 0 {
-        return Turn {
-            state,
-            more: false,
-            failed: true,
-        };
-    }
-    let n = io::count(got, input);
-    let now = answer_all(state, &input[..n], numbers, out);
-    let next = now.state;
-    Turn {
+fn read_once(
+    reader: &mut impl Read,
+    writer: &mut impl Write,
+    state: State,
+    input: &mut [u8],
+    numbers: &mut [i64],
+    out: &mut [u8],
+) -> io::Result<Turn> {
+    let n = reader.read(input)?;
+    let next = answer_all(writer, state, &input[..n], numbers, out)?;
+    Ok(Turn {
         state: next,
-        more: (0 < n) & !now.failed,
-        failed: now.failed,
-    }
+        more: 0 < n,
+    })
 }
 
 // The input's end, and what it answers.
-fn close(state: State, numbers: &mut [i64], out: &mut [u8]) -> bool {
+fn close(
+    writer: &mut impl Write,
+    state: State,
+    numbers: &mut [i64],
+    out: &mut [u8],
+) -> io::Result<()> {
     let finished = replies::finish(state, numbers, out);
-    io::write_all(1, &out[..finished.written])
+    writer.write_all(&out[..finished.written])
+}
+
+// Reads to the input's end.
+fn run(reader: &mut impl Read, writer: &mut impl Write) -> io::Result<()> {
+    let mut numbers = numbers();
+    let mut input = [0u8; 65536];
+    let mut out = room();
+    let mut state = asked::start();
+    for _ in 0..u64::MAX {
+        let turn = read_once(reader, writer, state, &mut input, &mut numbers, &mut out)?;
+        state = turn.state;
+        if !turn.more {
+            break;
+        }
+    }
+    close(writer, state, &mut numbers, &mut out)
 }
 
 // A read or a write that failed leaves the output without the answers that were to come.
-fn say_failed() {
-    io::write_all(
-        2,
-        b"desk: a read or a write failed, so answers are missing\n",
-    );
+fn say_failed(rt: &impl Eprint) {
+    let _ = rt.eprintln("desk: a read or a write failed, so answers are missing");
 }
 
-fn main() {
-    let mut numbers = numbers();
-    let mut input = io::large_buffer();
-    let mut out = room();
-    let mut now = Turn {
-        state: asked::start(),
-        more: true,
-        failed: false,
-    };
-    // As above: from a number that no run uses up.
-    let mut turns = u64::MAX;
-    while now.more & (0 < turns) {
-        let state = now.state;
-        now = read_once(state, &mut input, &mut numbers, &mut out);
-        turns -= 1;
-    }
-    if now.failed {
-        say_failed();
-        return;
-    }
-    let state = now.state;
-    if !close(state, &mut numbers, &mut out) {
-        say_failed();
+fn main(rt: HostRuntime) -> ExitCode {
+    match run(&mut rt.stdin(), &mut rt.stdout()) {
+        Ok(()) => ExitCode::SUCCESS,
+        Err(_) => {
+            say_failed(&rt);
+            ExitCode::FAILURE
+        }
     }
 }

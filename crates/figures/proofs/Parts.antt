@@ -1,11 +1,11 @@
--- A local array is lent in part and comes back: its first k elements as a slice for a lifetime, beside the rest. The borrow checker has these steps for
--- numbers and not for structs; here they are for any type of element, over the logic's own lemmas. Assumes nothing.
+-- A local array of any type of element, where it was stored, and one that was lent in part and comes back: its first k elements, beside the rest. (What lends
+-- them is the library's `share_cells`.) Over the logic's own lemmas. Assumes nothing.
 use Prim.Native.Nat.{ℕ}
 use mathlib.Core.Path.{◌≡◌, refl, sym}
 use mathlib.Core.List.{List, [], ◌∷◌, ◌++◌}
 use lib.ListN.{length, take, drop, take-append-drop}
 use seplogic.Ra.Ura.{Ura}
-use seplogic.Ra.TreeShare.{full_share}
+use base.Fraction.{full_share}
 use mir.Syntax.{named, ty_array}
 use mir.Val.{Val}
 use base.Logic.{ent}
@@ -49,18 +49,6 @@ module _ {M : Type 1} {𝓤 : Ura M} (𝓛 : Logic 𝓤) (R : RattleType) (m : �
     Rest = cells (mem R) (drop k xs) b (at 0 (mem R).size (length (take k xs)))
 
     module _ {Γ : List (Item 𝓤)} {G : Goal 𝓤 H} (soaks : Soaks G) (κ : Lft) where
-      pub lends : Single R.mir → Room R m
-          → ((γ : GName) → Sq 𝓛 (‵ ((ShrSlice (named 0) κ R).own_val (record { ref_ptr = (b, 0); now = take k xs }) (slice_val (b, 0) (length (take k xs)) ∷ [])) ∷ ‵ (flent κ Way) ∷ ‵ Rest ∷ Γ) G)
-          → Sq 𝓛 (‵ (part_at (Array R m) full_share xs b 0) ∷ Γ) G
-      lends one room go =
-          use1 𝓛 (‵ ((arr_parts (shares R) m).part full_share xs b 0)) (Array-apart 𝓛 R full_share one m xs b 0) $ fsplit ! $ feq_l ! (λ l.
-          rewrite ! 0 (λ (F : Fml). ‵ F) (parts-cells R full_share xs b 0) refl $
-          rewrite ! 0 (λ (ys : List R.Denot). ‵ (cells (mem R) ys b 0)) (sym (take-append-drop k xs)) refl $
-          use1 𝓛 (‵ (cells (mem R) (take k xs) b 0) ⊛ ‵ Rest) (cut_app 𝓛 (mem R) (take k xs) (drop k xs) b 0) $ split ! $
-          rewrite ! 0 (λ (F : Fml). ‵ F) (sym (parts-cells R full_share (take k xs) b 0)) refl $ feq_i ! ℕ (length (take k xs)) (length (take k xs)) refl $ fjoin ! $
-          use1 𝓛 (later (some (λ (γ : GName). ‵ ((ShrSlice (named 0) κ R).own_val (record { ref_ptr = (b, 0); now = take k xs }) (slice_val (b, 0) (length (take k xs)) ∷ [])) ⊛ ‵ (flent κ Way))))
-          (lends_shr_slice 𝓛 R (named 0) κ full_share (take k xs) b 0 (Room-take R m k xs l room)) $ await ! soaks $ pick ! (λ γ. split ! $ go γ))
-
       pub comes_back : length xs ≡ m → Sq 𝓛 (‵ (froom (ty_array (lone R.mir) m) b 0) ∷ Γ) G → Sq 𝓛 (‵ (fdead κ) ∷ ‵ (flent κ Way) ∷ ‵ Rest ∷ Γ) G
       comes_back l go =
           lent_back ! soaks $ fsplit ! $ toss ! $

@@ -5,6 +5,7 @@ ghost use Rattle.records.specs.Records.{records_refusal, records_answer};
 use crate::text;
 use bands::Factored;
 use records::Band;
+use std::io;
 
 // What the two functions answer: the list's check, and the factor of a rate.
 #[derive(Drop)]
@@ -13,38 +14,38 @@ struct Told {
     found: Factored,
 }
 
-pub(crate) fn records() {
-    text::heading(b"records");
-    of_list_s(b"list S", 7, 100);
-    of_list_s(b"list S", 7, 95);
-    of_list_s(b"list S", 7, 94);
-    of_list_s(b"list S", 7, 70);
-    of_list_s(b"list S", 7, 69);
-    of_list_s(b"list S", 7, 0);
-    of_list_s(b"list S", 7, 101);
-    of_list_s(b"last not 0", 6, 95);
-    of_list_s(b"none", 0, 95);
-    changed();
+pub(crate) fn records(rt: &impl Print) -> io::Result<()> {
+    text::heading(rt, b"records")?;
+    of_list_s(rt, b"list S", 7, 100)?;
+    of_list_s(rt, b"list S", 7, 95)?;
+    of_list_s(rt, b"list S", 7, 94)?;
+    of_list_s(rt, b"list S", 7, 70)?;
+    of_list_s(rt, b"list S", 7, 69)?;
+    of_list_s(rt, b"list S", 7, 0)?;
+    of_list_s(rt, b"list S", 7, 101)?;
+    of_list_s(rt, b"last not 0", 6, 95)?;
+    of_list_s(rt, b"none", 0, 95)?;
+    changed(rt)
 }
 
 // The first n records of list S.
-fn of_list_s(label: &[u8], n: usize, rate: u8)
+fn of_list_s(rt: &impl Print, label: &[u8], n: usize, rate: u8) -> io::Result<()>
     requires { n ≤ 17 }
 {
-    show(label, list_s(), n, rate);
+    show(rt, label, list_s(), n, rate)
 }
 
-fn show(label: &[u8], list: [Band; 17], n: usize, rate: u8)
+fn show(rt: &impl Print, label: &[u8], list: [Band; 17], n: usize, rate: u8) -> io::Result<()>
     requires { n ≤ 17 }
 {
     let told = asked(list, n, rate);
     let found = told.found;
-    io::write_all(1, label);
-    text::byte(rate);
-    text::byte(told.check);
-    text::byte(found.refusal);
-    text::number(found.factor);
-    text::end();
+    rt.write_all(label)?;
+    text::byte(rt, rate)?;
+    text::byte(rt, told.check)?;
+    text::byte(rt, found.refusal)?;
+    text::number(rt, found.factor)?;
+    text::end(rt)
 }
 
 // The first n records of a list, lent to both.
@@ -82,14 +83,14 @@ fn band(threshold: i64, factor: i64) -> Band {
     }
 }
 
-fn changed() {
+fn changed(rt: &impl Print) -> io::Result<()> {
     let mut list = list_s();
     list[1] = band(95, 8);
-    show(b"equal thresholds", list, 7, 94);
+    show(rt, b"equal thresholds", list, 7, 94)?;
     let mut many = seventeen();
-    show(b"seventeen", many, 17, 95);
+    show(rt, b"seventeen", many, 17, 95)?;
     many[15] = band(0, -5);
-    show(b"sixteen", many, 16, 69);
+    show(rt, b"sixteen", many, 16, 69)
 }
 
 // Seventeen that fall to 0.

@@ -2,6 +2,7 @@
 use crate::readings::Rule;
 use crate::{readings, text};
 use hour::{Settlement, Shift, Terms};
+use std::io;
 use units::{Kilowatts, Millihertz, limits};
 
 // 10 MW at 430 and 350 dollars.
@@ -23,70 +24,72 @@ pub(crate) fn shift_of(targets: [i64; 5]) -> Shift {
 }
 
 // Every field of a settlement.
-pub(crate) fn settlement(label: &[u8], s: Settlement) {
+pub(crate) fn settlement(rt: &impl Print, label: &[u8], s: Settlement) -> io::Result<()> {
     let capacity = s.capacity;
     let performance = s.performance;
     let quality = s.quality;
     let energy = s.energy;
     let amount = s.amount;
-    io::write_all(1, label);
-    text::byte(s.refusal);
-    text::byte(s.rate);
-    text::number(s.factor);
-    text::number(capacity.0);
-    text::number(performance.0);
-    text::number(quality.0);
-    text::number(energy.0);
-    text::number(amount.0);
+    rt.write_all(label)?;
+    text::byte(rt, s.refusal)?;
+    text::byte(rt, s.rate)?;
+    text::number(rt, s.factor)?;
+    text::number(rt, capacity.0)?;
+    text::number(rt, performance.0)?;
+    text::number(rt, quality.0)?;
+    text::number(rt, energy.0)?;
+    text::number(rt, amount.0)
 }
 
-pub(crate) fn dreg_hours() {
-    text::heading(b"dReg hours");
-    stumbles();
-    ties();
-    limits();
+pub(crate) fn dreg_hours(rt: &impl Print) -> io::Result<()> {
+    text::heading(rt, b"dReg hours")?;
+    stumbles(rt)?;
+    ties(rt)?;
+    limits(rt)
 }
 
-pub(crate) fn shift_hours() {
-    text::heading(b"E-dReg hours");
-    shifts();
-    extremes();
+pub(crate) fn shift_hours(rt: &impl Print) -> io::Result<()> {
+    text::heading(rt, b"E-dReg hours")?;
+    shifts(rt)?;
+    extremes(rt)
 }
 
-fn stumbles() {
-    level(b"steady", 3_500, 59_900);
-    stumble(b"a stumble of three seconds", 1_000, 1_003);
-    stumble(b"a stumble of four", 1_000, 1_004);
-    stumble(b"four first", 0, 4);
-    stumble(b"four last", 3_596, 3_600);
-    late(b"in its place", 1_000);
-    late(b"a second late", 1_001);
-    alternate(b"alternating", 10_000, -10_000);
-    alternate(b"alternating, a second late", -10_000, 10_000);
+fn stumbles(rt: &impl Print) -> io::Result<()> {
+    level(rt, b"steady", 3_500, 59_900)?;
+    stumble(rt, b"a stumble of three seconds", 1_000, 1_003)?;
+    stumble(rt, b"a stumble of four", 1_000, 1_004)?;
+    stumble(rt, b"four first", 0, 4)?;
+    stumble(rt, b"four last", 3_596, 3_600)?;
+    late(rt, b"in its place", 1_000)?;
+    late(rt, b"a second late", 1_001)?;
+    alternate(rt, b"alternating", 10_000, -10_000)?;
+    alternate(rt, b"alternating, a second late", -10_000, 10_000)
 }
 
 // An hour at one power and one frequency.
-fn level(label: &[u8], power: i64, frequency: i64) {
+fn level(rt: &impl Print, label: &[u8], power: i64, frequency: i64) -> io::Result<()> {
     let powers = [power; limits::SECONDS];
     let frequencies = [frequency; limits::SECONDS];
-    dreg(label, &powers, &frequencies);
+    dreg(rt, label, &powers, &frequencies)
 }
 
-fn dreg(label: &[u8], powers: &[i64], frequencies: &[i64]) {
+fn dreg(rt: &impl Print, label: &[u8], powers: &[i64], frequencies: &[i64]) -> io::Result<()> {
     let none = [0u8; 0];
-    dreg_after(label, powers, frequencies, terms(), &none);
+    dreg_after(rt, label, powers, frequencies, terms(), &none)
 }
 
 // The hour after one that ended in these scores.
 pub(crate) fn dreg_after(
+    rt: &impl Print,
     label: &[u8],
     powers: &[i64],
     frequencies: &[i64],
     terms: Terms,
     earlier: &[u8],
-) {
+) -> io::Result<()> {
     let mut scores = [7u8; limits::SECONDS];
     dreg_work(
+        rt,
         label,
         powers,
         frequencies,
@@ -94,11 +97,12 @@ pub(crate) fn dreg_after(
         limits::NOMINAL,
         earlier,
         &mut scores,
-    );
+    )
 }
 
 // An hour on list S: its settlement, then a check sum of the run that it leaves.
 pub(crate) fn dreg_work(
+    rt: &impl Print,
     label: &[u8],
     powers: &[i64],
     frequencies: &[i64],
@@ -106,7 +110,7 @@ pub(crate) fn dreg_work(
     reference: i64,
     earlier: &[u8],
     scores: &mut [u8],
-) {
+) -> io::Result<()> {
     let thresholds = [95i64, 94, 93, 92, 91, 70, 0];
     let factors = [10i64, 8, 6, 4, 2, 0, -10];
     let s = hour::dreg_hour(
@@ -119,30 +123,30 @@ pub(crate) fn dreg_work(
         earlier,
         scores,
     );
-    settlement(label, s);
-    text::count(readings::score_sum(scores));
-    text::end();
+    settlement(rt, label, s)?;
+    text::count(rt, readings::score_sum(scores))?;
+    text::end(rt)
 }
 
 // A steady hour but for a stretch at another power.
-fn stumble(label: &[u8], from: usize, to: usize) {
+fn stumble(rt: &impl Print, label: &[u8], from: usize, to: usize) -> io::Result<()> {
     let mut powers = [3_500i64; limits::SECONDS];
     let frequencies = [59_900i64; limits::SECONDS];
     readings::stretch(&mut powers, from, to, 4_500);
-    dreg(label, &powers, &frequencies);
+    dreg(rt, label, &powers, &frequencies)
 }
 
 // The frequency falls, and the power of the second after each reading is judged by it.
-fn late(label: &[u8], from: usize) {
+fn late(rt: &impl Print, label: &[u8], from: usize) -> io::Result<()> {
     let mut powers = [0i64; limits::SECONDS];
     let mut frequencies = [60_000i64; limits::SECONDS];
     readings::stretch(&mut frequencies, from, 1_004, 59_750);
     readings::stretch(&mut powers, 1_000, 1_004, 10_000);
-    dreg(label, &powers, &frequencies);
+    dreg(rt, label, &powers, &frequencies)
 }
 
 // Frequency and power change every second: a power that is judged by another second's frequency scores 0.
-fn alternate(label: &[u8], even: i64, odd: i64) {
+fn alternate(rt: &impl Print, label: &[u8], even: i64, odd: i64) -> io::Result<()> {
     let mut powers = [0i64; limits::SECONDS];
     let mut frequencies = [0i64; limits::SECONDS];
     readings::fill(
@@ -152,64 +156,73 @@ fn alternate(label: &[u8], even: i64, odd: i64) {
         Rule::Turns(59_750, 60_250),
     );
     readings::fill(&mut powers, 0, limits::SECONDS, Rule::Turns(even, odd));
-    dreg(label, &powers, &frequencies);
+    dreg(rt, label, &powers, &frequencies)
 }
 
 // The curve's ties: 31 and 22 percent at 59,920, -22 and -31 percent at 60,080.
-fn ties() {
-    level(b"tie 59,920 above", 3_100, 59_920);
-    level(b"tie 59,920 past", 3_200, 59_920);
-    level(b"tie 59,920 below", 2_100, 59_920);
-    level(b"tie 60,080 above", -2_200, 60_080);
-    level(b"tie 60,080 past", -2_100, 60_080);
-    level(b"tie 60,080 below", -3_200, 60_080);
+fn ties(rt: &impl Print) -> io::Result<()> {
+    level(rt, b"tie 59,920 above", 3_100, 59_920)?;
+    level(rt, b"tie 59,920 past", 3_200, 59_920)?;
+    level(rt, b"tie 59,920 below", 2_100, 59_920)?;
+    level(rt, b"tie 60,080 above", -2_200, 60_080)?;
+    level(rt, b"tie 60,080 past", -2_100, 60_080)?;
+    level(rt, b"tie 60,080 below", -3_200, 60_080)
 }
 
-fn limits() {
-    level(b"most power", 200_000, 55_000);
-    level(b"least power", -200_000, 65_000);
-    level(b"a power above", 200_001, 60_000);
-    level(b"a power below", -200_001, 60_000);
-    level(b"a frequency below", 0, 54_999);
+fn limits(rt: &impl Print) -> io::Result<()> {
+    level(rt, b"most power", 200_000, 55_000)?;
+    level(rt, b"least power", -200_000, 65_000)?;
+    level(rt, b"a power above", 200_001, 60_000)?;
+    level(rt, b"a power below", -200_001, 60_000)?;
+    level(rt, b"a frequency below", 0, 54_999)
 }
 
-fn shifts() {
+fn shifts(rt: &impl Print) -> io::Result<()> {
     let charging = [0, -3_000, -4_000, -2_001, -5_000];
     let discharging = [-3_000, 3_000, 4_000, 2_001, 5_000];
     let both = [100, 4_000, -4_000, 0, 7];
     let none = [0, 0, 0, 0, 0];
-    follow(b"charging", charging, charging);
-    follow(b"discharging", discharging, discharging);
-    follow(b"both", both, both);
-    follow(b"another plan", charging, both);
-    follow(b"no plan", both, none);
-    waver(b"wavering", discharging, discharging);
-    waver(b"wavering, another plan", both, discharging);
+    follow(rt, b"charging", charging, charging)?;
+    follow(rt, b"discharging", discharging, discharging)?;
+    follow(rt, b"both", both, both)?;
+    follow(rt, b"another plan", charging, both)?;
+    follow(rt, b"no plan", both, none)?;
+    waver(rt, b"wavering", discharging, discharging)?;
+    waver(rt, b"wavering, another plan", both, discharging)
 }
 
 // Powers that follow some targets while others are scheduled, at a steady frequency and over the whole curve.
-fn follow(label: &[u8], followed: [i64; 5], planned: [i64; 5]) {
+fn follow(rt: &impl Print, label: &[u8], followed: [i64; 5], planned: [i64; 5]) -> io::Result<()> {
     let mut powers = [0i64; limits::SECONDS];
     let frequencies = [60_000i64; limits::SECONDS];
     readings::follow(&mut powers, &followed);
-    shift(label, &powers, &frequencies, terms(), shift_of(planned));
+    shift(rt, label, &powers, &frequencies, terms(), shift_of(planned))
 }
 
-fn shift(label: &[u8], powers: &[i64], frequencies: &[i64], terms: Terms, shift: Shift) {
+fn shift(
+    rt: &impl Print,
+    label: &[u8],
+    powers: &[i64],
+    frequencies: &[i64],
+    terms: Terms,
+    shift: Shift,
+) -> io::Result<()> {
     let none = [0u8; 0];
-    shift_after(label, powers, frequencies, terms, shift, &none);
+    shift_after(rt, label, powers, frequencies, terms, shift, &none)
 }
 
 pub(crate) fn shift_after(
+    rt: &impl Print,
     label: &[u8],
     powers: &[i64],
     frequencies: &[i64],
     terms: Terms,
     shift: Shift,
     earlier: &[u8],
-) {
+) -> io::Result<()> {
     let mut scores = [7u8; limits::SECONDS];
     work(
+        rt,
         label,
         powers,
         frequencies,
@@ -218,11 +231,12 @@ pub(crate) fn shift_after(
         shift,
         earlier,
         &mut scores,
-    );
+    )
 }
 
 // The same for E-dReg.
 pub(crate) fn work(
+    rt: &impl Print,
     label: &[u8],
     powers: &[i64],
     frequencies: &[i64],
@@ -231,7 +245,7 @@ pub(crate) fn work(
     shift: Shift,
     earlier: &[u8],
     scores: &mut [u8],
-) {
+) -> io::Result<()> {
     let thresholds = [95i64, 94, 93, 92, 91, 70, 0];
     let factors = [10i64, 8, 6, 4, 2, 0, -10];
     let s = hour::hour(
@@ -245,30 +259,36 @@ pub(crate) fn work(
         earlier,
         scores,
     );
-    settlement(label, s);
-    text::count(readings::score_sum(scores));
-    text::end();
+    settlement(rt, label, s)?;
+    text::count(rt, readings::score_sum(scores))?;
+    text::end(rt)
 }
 
-fn waver(label: &[u8], followed: [i64; 5], planned: [i64; 5]) {
+fn waver(rt: &impl Print, label: &[u8], followed: [i64; 5], planned: [i64; 5]) -> io::Result<()> {
     let mut powers = [0i64; limits::SECONDS];
     let mut frequencies = [0i64; limits::SECONDS];
     readings::follow(&mut powers, &followed);
     readings::fill(&mut frequencies, 0, limits::SECONDS, Rule::Waver(59_700));
-    shift(label, &powers, &frequencies, terms(), shift_of(planned));
+    shift(rt, label, &powers, &frequencies, terms(), shift_of(planned))
 }
 
-fn extremes() {
-    extreme(b"most", 200_000, 55_000, 100_000);
-    extreme(b"most, the other way", 200_000, 55_000, -100_000);
-    extreme(b"least", -200_000, 65_000, -100_000);
-    extreme(b"least, the other way", -200_000, 65_000, 100_000);
+fn extremes(rt: &impl Print) -> io::Result<()> {
+    extreme(rt, b"most", 200_000, 55_000, 100_000)?;
+    extreme(rt, b"most, the other way", 200_000, 55_000, -100_000)?;
+    extreme(rt, b"least", -200_000, 65_000, -100_000)?;
+    extreme(rt, b"least, the other way", -200_000, 65_000, 100_000)
 }
 
-fn extreme(label: &[u8], power: i64, frequency: i64, target: i64) {
+fn extreme(
+    rt: &impl Print,
+    label: &[u8],
+    power: i64,
+    frequency: i64,
+    target: i64,
+) -> io::Result<()> {
     let powers = [power; limits::SECONDS];
     let frequencies = [frequency; limits::SECONDS];
-    shift(label, &powers, &frequencies, most(), most_shift(target));
+    shift(rt, label, &powers, &frequencies, most(), most_shift(target))
 }
 
 // Capacity and prices at their limits, and one target throughout.

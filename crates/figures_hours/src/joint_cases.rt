@@ -1,29 +1,41 @@
 // The joint call: an hour that is worked out and posted.
 use crate::{hour_cases, readings, text};
 use month::Month;
+use std::io;
 use units::{Millihertz, limits};
 
-pub(crate) fn joint() {
-    text::heading(b"joint calls");
+pub(crate) fn joint(rt: &impl Print) -> io::Result<()> {
+    text::heading(rt, b"joint calls")?;
     let mut powers = [0i64; limits::SECONDS];
     let frequencies = [60_000i64; limits::SECONDS];
-    let m = posts(&powers, &frequencies);
+    let m = posts(rt, &powers, &frequencies)?;
     readings::stretch(&mut powers, 3 * limits::QUARTER, limits::SECONDS, 900);
-    let m = closes(&powers, &frequencies, m);
-    join(b"no month", &powers, &frequencies, 0, opened(27), 3, 12);
-    forged(&powers, &frequencies);
+    let m = closes(rt, &powers, &frequencies, m)?;
+    join(rt, b"no month", &powers, &frequencies, 0, opened(27), 3, 12)?;
+    forged(rt, &powers, &frequencies)?;
     readings::stretch(&mut powers, 0, 1, -200_001);
-    join(b"closed, a power below", &powers, &frequencies, 0, m, 3, 12);
+    join(
+        rt,
+        b"closed, a power below",
+        &powers,
+        &frequencies,
+        0,
+        m,
+        3,
+        12,
+    )?;
+    Ok(())
 }
 
 // A place that fills, and what the ledger or the hour refuses.
-fn posts(powers: &[i64], frequencies: &[i64]) -> Month {
+fn posts(rt: &impl Print, powers: &[i64], frequencies: &[i64]) -> io::Result<Month> {
     let m = opened(30);
-    let m = join(b"posted", powers, frequencies, 0, m, 3, 10);
-    let m = join(b"place filled", powers, frequencies, 0, m, 3, 10);
-    let m = join(b"day 31", powers, frequencies, 0, m, 31, 10);
-    let m = join(b"hour 24", powers, frequencies, 0, m, 3, 24);
+    let m = join(rt, b"posted", powers, frequencies, 0, m, 3, 10)?;
+    let m = join(rt, b"place filled", powers, frequencies, 0, m, 3, 10)?;
+    let m = join(rt, b"day 31", powers, frequencies, 0, m, 31, 10)?;
+    let m = join(rt, b"hour 24", powers, frequencies, 0, m, 3, 24)?;
     join(
+        rt,
         b"a target above, place filled",
         powers,
         frequencies,
@@ -40,6 +52,7 @@ pub(crate) fn opened(days: u8) -> Month {
 }
 
 fn join(
+    rt: &impl Print,
     label: &[u8],
     powers: &[i64],
     frequencies: &[i64],
@@ -47,10 +60,11 @@ fn join(
     m: Month,
     day: u8,
     hour: u8,
-) -> Month {
+) -> io::Result<Month> {
     let none = [0u8; 0];
     let reference = limits::NOMINAL;
     join_after(
+        rt,
         label,
         powers,
         frequencies,
@@ -65,6 +79,7 @@ fn join(
 
 // The settlement, then the ledger after it.
 pub(crate) fn join_after(
+    rt: &impl Print,
     label: &[u8],
     powers: &[i64],
     frequencies: &[i64],
@@ -74,7 +89,7 @@ pub(crate) fn join_after(
     m: Month,
     day: u8,
     hour: u8,
-) -> Month {
+) -> io::Result<Month> {
     let thresholds = [95i64, 94, 93, 92, 91, 70, 0];
     let factors = [10i64, 8, 6, 4, 2, 0, -10];
     let shift = hour_cases::shift_of([0, 0, 0, 0, target]);
@@ -92,35 +107,35 @@ pub(crate) fn join_after(
         hour,
     );
     let after = j.month;
-    hour_cases::settlement(label, j.hour);
-    ledger(after, day, hour);
-    after
+    hour_cases::settlement(rt, label, j.hour)?;
+    ledger(rt, after, day, hour)?;
+    Ok(after)
 }
 
 // The hour's place, the total and the standing hours.
-pub(crate) fn ledger(m: Month, day: u8, hour: u8) {
+pub(crate) fn ledger(rt: &impl Print, m: Month, day: u8, hour: u8) -> io::Result<()> {
     let h = m.hour(day, hour);
     let amount = h.amount;
     let t = m.total();
     let total = t.amount;
     let s = m.standing();
-    text::byte(h.refusal);
-    text::number(amount.0);
-    text::byte(t.refusal);
-    text::number(total.0);
-    text::byte(s.refusal);
-    text::count(s.standing as u64);
-    text::end();
+    text::byte(rt, h.refusal)?;
+    text::number(rt, amount.0)?;
+    text::byte(rt, t.refusal)?;
+    text::number(rt, total.0)?;
+    text::byte(rt, s.refusal)?;
+    text::count(rt, s.standing as u64)?;
+    text::end(rt)
 }
 
 // Hours with energy service, a withdrawn hour and a closed month.
-fn closes(powers: &[i64], frequencies: &[i64], m: Month) -> Month {
-    let m = join(b"another hour", powers, frequencies, 5, m, 3, 11);
+fn closes(rt: &impl Print, powers: &[i64], frequencies: &[i64], m: Month) -> io::Result<Month> {
+    let m = join(rt, b"another hour", powers, frequencies, 5, m, 3, 11)?;
     let m = withdrawn(m, 3, 10);
-    let m = join(b"posted again", powers, frequencies, -5, m, 3, 10);
+    let m = join(rt, b"posted again", powers, frequencies, -5, m, 3, 10)?;
     let m = closed(m);
-    join(b"closed", powers, frequencies, 0, m, 3, 12);
-    join(b"closed, day 0", powers, frequencies, 0, m, 0, 12)
+    join(rt, b"closed", powers, frequencies, 0, m, 3, 12)?;
+    join(rt, b"closed, day 0", powers, frequencies, 0, m, 0, 12)
 }
 
 fn withdrawn(m: Month, day: u8, hour: u8) -> Month {
@@ -133,10 +148,11 @@ fn closed(m: Month) -> Month {
     b.month
 }
 
-fn forged(powers: &[i64], frequencies: &[i64]) {
+fn forged(rt: &impl Print, powers: &[i64], frequencies: &[i64]) -> io::Result<()> {
     let mut m = opened(30);
     m.amounts[0] = 1;
     join(
+        rt,
         b"a ledger that no run of calls hands back",
         powers,
         frequencies,
@@ -144,5 +160,6 @@ fn forged(powers: &[i64], frequencies: &[i64]) {
         m,
         3,
         12,
-    );
+    )?;
+    Ok(())
 }

@@ -2,11 +2,12 @@
 use crate::{fees_cases, text};
 use bands::Factored;
 use month::Month;
+use std::io;
 use units::{Dollars, Kilowatts, Megawatts};
 
 // An awarded hour as a table prints it: day and hour, capacity in MW, clearing and performance price in hundredths, the
 // rate.
-#[derive(Drop)]
+#[derive(Clone, Copy)]
 struct Award {
     day: u8,
     hour: u8,
@@ -17,41 +18,41 @@ struct Award {
 }
 
 // Document 001, table 4.
-pub(crate) fn march() {
-    text::heading(b"document 001, table 4: a dReg month");
+pub(crate) fn march(rt: &impl Print) -> io::Result<()> {
+    text::heading(rt, b"document 001, table 4: a dReg month")?;
     let m = opened(31);
-    let m = dreg(m, 3, 10, 10, 43_000, 96);
-    let m = dreg(m, 3, 11, 10, 43_500, 94);
-    let m = dreg(m, 3, 12, 10, 44_000, 69);
-    let m = dreg(m, 3, 13, 10, 44_200, 70);
-    let m = dreg(m, 4, 8, 12, 42_000, 93);
-    let m = dreg(m, 4, 9, 12, 41_000, 94);
-    let m = dreg(m, 4, 10, 12, 41_500, 95);
-    day(m, 3);
-    day(m, 4);
-    total(m, 8_658);
+    let m = dreg(rt, m, 3, 10, 10, 43_000, 96)?;
+    let m = dreg(rt, m, 3, 11, 10, 43_500, 94)?;
+    let m = dreg(rt, m, 3, 12, 10, 44_000, 69)?;
+    let m = dreg(rt, m, 3, 13, 10, 44_200, 70)?;
+    let m = dreg(rt, m, 4, 8, 12, 42_000, 93)?;
+    let m = dreg(rt, m, 4, 9, 12, 41_000, 94)?;
+    let m = dreg(rt, m, 4, 10, 12, 41_500, 95)?;
+    day(rt, m, 3)?;
+    day(rt, m, 4)?;
+    total(rt, m, 8_658)
 }
 
 // Document 001, table 6.
-pub(crate) fn april() {
-    text::heading(b"document 001, table 6: an E-dReg month");
+pub(crate) fn april(rt: &impl Print) -> io::Result<()> {
+    text::heading(rt, b"document 001, table 6: an E-dReg month")?;
     let m = opened(30);
-    let m = april_hour(m, 0, 42_000, 99, -3_500, -3_000);
-    let m = april_hour(m, 1, 43_000, 94, -3_000, -3_000);
-    let m = april_hour(m, 2, 42_500, 96, -4_200, -4_000);
-    let m = april_rest(m, 3, 17, 43_000);
-    let m = april_hour(m, 17, 45_000, 92, 4_200, 4_000);
-    let m = april_hour(m, 18, 45_500, 90, 2_200, 3_000);
-    let m = april_hour(m, 19, 44_000, 91, 2_500, 3_000);
-    let m = april_rest(m, 20, 23, 42_000);
-    let m = april_hour(m, 23, 42_000, 96, 0, 0);
-    day(m, 12);
-    total(m, 35_488);
+    let m = april_hour(rt, m, 0, 42_000, 99, -3_500, -3_000)?;
+    let m = april_hour(rt, m, 1, 43_000, 94, -3_000, -3_000)?;
+    let m = april_hour(rt, m, 2, 42_500, 96, -4_200, -4_000)?;
+    let m = april_rest(rt, m, 3, 17, 43_000)?;
+    let m = april_hour(rt, m, 17, 45_000, 92, 4_200, 4_000)?;
+    let m = april_hour(rt, m, 18, 45_500, 90, 2_200, 3_000)?;
+    let m = april_hour(rt, m, 19, 44_000, 91, 2_500, 3_000)?;
+    let m = april_rest(rt, m, 20, 23, 42_000)?;
+    let m = april_hour(rt, m, 23, 42_000, 96, 0, 0)?;
+    day(rt, m, 12)?;
+    total(rt, m, 35_488)
 }
 
 // Document 001, table 11: its second day on whole hourly amounts.
-pub(crate) fn january() {
-    text::heading(b"document 001, table 11: hours are rounded, then added");
+pub(crate) fn january(rt: &impl Print) -> io::Result<()> {
+    text::heading(rt, b"document 001, table 11: hours are rounded, then added")?;
     let m = opened(31);
     let m = post(m, 4, 18, -31_817);
     let m = post(m, 4, 19, 10_325);
@@ -59,8 +60,8 @@ pub(crate) fn january() {
     let m = post(m, 4, 21, 1_575);
     let m = post(m, 4, 22, 1_575);
     let m = post(m, 4, 23, 1_600);
-    day(m, 4);
-    total(m, 0);
+    day(rt, m, 4)?;
+    total(rt, m, 0)
 }
 
 fn opened(days: u8) -> Month {
@@ -69,7 +70,15 @@ fn opened(days: u8) -> Month {
 }
 
 // A dReg hour at 350 dollars performance price.
-fn dreg(m: Month, day: u8, hour: u8, capacity: i64, clearing: i64, rate: u8) -> Month {
+fn dreg(
+    rt: &impl Print,
+    m: Month,
+    day: u8,
+    hour: u8,
+    capacity: i64,
+    clearing: i64,
+    rate: u8,
+) -> io::Result<Month> {
     let award = Award {
         day: day,
         hour: hour,
@@ -78,11 +87,11 @@ fn dreg(m: Month, day: u8, hour: u8, capacity: i64, clearing: i64, rate: u8) -> 
         performance: 35_000,
         rate: rate,
     };
-    settle(m, award, Dollars(0))
+    settle(rt, m, award, Dollars(0))
 }
 
 // Posts an hour and prints its row: hour, fees, factor, energy service fee, amount and the ledger's refusal.
-fn settle(m: Month, award: Award, energy: Dollars) -> Month {
+fn settle(rt: &impl Print, m: Month, award: Award, energy: Dollars) -> io::Result<Month> {
     let size = kilowatts(award.capacity);
     let capacity = fee_of(award.clearing, size);
     let performance = fee_of(award.performance, size);
@@ -91,17 +100,17 @@ fn settle(m: Month, award: Award, energy: Dollars) -> Month {
     let quality = quality_of(capacity, performance, factor);
     let amount = amount_of(quality, energy);
     let b = m.post(award.day, award.hour, amount);
-    io::write_all(1, b"hour");
-    text::byte(award.hour);
-    text::number(capacity.0);
-    text::number(performance.0);
-    text::byte(award.rate);
-    text::number(factor);
-    text::number(energy.0);
-    text::number(amount.0);
-    text::byte(b.refusal);
-    text::end();
-    b.month
+    rt.write_all(b"hour")?;
+    text::byte(rt, award.hour)?;
+    text::number(rt, capacity.0)?;
+    text::number(rt, performance.0)?;
+    text::byte(rt, award.rate)?;
+    text::number(rt, factor)?;
+    text::number(rt, energy.0)?;
+    text::number(rt, amount.0)?;
+    text::byte(rt, b.refusal)?;
+    text::end(rt)?;
+    Ok(b.month)
 }
 
 fn kilowatts(figure: i64) -> Kilowatts {
@@ -134,31 +143,39 @@ fn amount_of(quality: Dollars, energy: Dollars) -> Dollars {
     Dollars(amount)
 }
 
-fn day(m: Month, day: u8) {
+fn day(rt: &impl Print, m: Month, day: u8) -> io::Result<()> {
     let d = m.day(day);
     let sum = d.amount;
-    io::write_all(1, b"day");
-    text::byte(day);
-    text::byte(d.refusal);
-    text::number(sum.0);
-    text::end();
+    rt.write_all(b"day")?;
+    text::byte(rt, day)?;
+    text::byte(rt, d.refusal)?;
+    text::number(rt, sum.0)?;
+    text::end(rt)
 }
 
 // A table's loss fee, which is one figure there, as the basic fee; then the month total.
-fn total(m: Month, fee: i64) {
+fn total(rt: &impl Print, m: Month, fee: i64) -> io::Result<()> {
     let b = m.set_basic_fee(Dollars(fee));
     let after = b.month;
     let t = after.total();
     let sum = t.amount;
-    io::write_all(1, b"total");
-    text::byte(b.refusal);
-    text::byte(t.refusal);
-    text::number(sum.0);
-    text::end();
+    rt.write_all(b"total")?;
+    text::byte(rt, b.refusal)?;
+    text::byte(rt, t.refusal)?;
+    text::number(rt, sum.0)?;
+    text::end(rt)
 }
 
 // An hour of 12 April: 10 MW at 475 dollars performance price, with the hour's mean power and target in kW.
-fn april_hour(m: Month, hour: u8, clearing: i64, rate: u8, mean: i64, target: i64) -> Month {
+fn april_hour(
+    rt: &impl Print,
+    m: Month,
+    hour: u8,
+    clearing: i64,
+    rate: u8,
+    mean: i64,
+    target: i64,
+) -> io::Result<Month> {
     let c = fees_cases::steady_energy(mean, target);
     let award = Award {
         day: 12,
@@ -168,18 +185,16 @@ fn april_hour(m: Month, hour: u8, clearing: i64, rate: u8, mean: i64, target: i6
         performance: 47_500,
         rate: rate,
     };
-    settle(m, award, c.dollars)
+    settle(rt, m, award, c.dollars)
 }
 
 // The table's rows between two hours: no transfer, 95 percent.
-fn april_rest(m: Month, from: u8, to: u8, clearing: i64) -> Month {
+fn april_rest(rt: &impl Print, m: Month, from: u8, to: u8, clearing: i64) -> io::Result<Month> {
     let mut next = m;
-    let mut hour = from;
-    while hour < to {
-        next = april_hour(next, hour, clearing, 95, 0, 0);
-        hour += 1;
+    for hour in from..to {
+        next = april_hour(rt, next, hour, clearing, 95, 0, 0)?;
     }
-    next
+    Ok(next)
 }
 
 fn post(m: Month, day: u8, hour: u8, amount: i64) -> Month {

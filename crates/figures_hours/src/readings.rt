@@ -2,7 +2,7 @@
 const MODULUS: u64 = 4_294_967_296;
 
 // What a made-up run has at its places.
-#[derive(Drop)]
+#[derive(Clone, Copy)]
 pub(crate) enum Rule {
     Level(i64),
     // at even places and at odd ones
@@ -15,12 +15,9 @@ pub(crate) enum Rule {
 
 // The rule's values from a place on, up to another or the run's end.
 pub(crate) fn fill(run: &mut [i64], from: usize, to: usize, rule: Rule) {
-    let mut i = from;
-    while i < run.len() {
+    for i in from..run.len() {
         let old = run[i];
-        let x = chosen(i < to, value_at(rule, i), old);
-        run[i] = x;
-        i += 1;
+        run[i] = chosen(i < to, value_at(rule, i), old);
     }
 }
 
@@ -43,11 +40,8 @@ pub(crate) fn follow(run: &mut [i64], targets: &[i64]) {
 
 pub(crate) fn score_sum(run: &[u8]) -> u64 {
     let mut sum = 0;
-    let mut i = 0;
-    while i < run.len() {
-        let x = run[i];
-        sum = with_score(sum, x);
-        i += 1;
+    for score in run {
+        sum = with_score(sum, *score);
     }
     sum
 }

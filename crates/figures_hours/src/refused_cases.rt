@@ -1,30 +1,35 @@
 // Hours with faults: which refusal comes first.
 use crate::{hour_cases, readings, text};
 use hour::{Shift, Terms};
+use std::io;
 use units::{Kilowatts, Millihertz, limits};
 
-pub(crate) fn hours() {
-    text::heading(b"refused hours by 60,000: 1, 2, 3, 5, 10, 4 in this order");
+pub(crate) fn hours(rt: &impl Print) -> io::Result<()> {
+    text::heading(
+        rt,
+        b"refused hours by 60,000: 1, 2, 3, 5, 10, 4 in this order",
+    )?;
     let mut powers = [0i64; limits::SECONDS];
     let mut frequencies = [0i64; limits::SECONDS];
-    faults(&mut powers, &mut frequencies);
+    faults(rt, &mut powers, &mut frequencies)
 }
 
-fn faults(powers: &mut [i64], frequencies: &mut [i64]) {
+fn faults(rt: &impl Print, powers: &mut [i64], frequencies: &mut [i64]) -> io::Result<()> {
     readings::stretch(frequencies, 0, limits::SECONDS, 60_000);
-    at_the_limits(powers, frequencies);
-    single(powers, frequencies);
-    single_in_bands_and_targets(powers, frequencies);
-    short_scores(powers, frequencies);
+    at_the_limits(rt, powers, frequencies)?;
+    single(rt, powers, frequencies)?;
+    single_in_bands_and_targets(rt, powers, frequencies)?;
+    short_scores(rt, powers, frequencies)?;
     readings::stretch(powers, limits::SECONDS - 1, limits::SECONDS, 200_001);
-    several(powers, frequencies);
-    lengths(powers, frequencies);
+    several(rt, powers, frequencies)?;
+    lengths(rt, powers, frequencies)
 }
 
 // Nothing is refused.
-fn at_the_limits(powers: &[i64], frequencies: &[i64]) {
-    attempt(b"none", powers, frequencies, 10_000, 50_000, 10, 0);
+fn at_the_limits(rt: &impl Print, powers: &[i64], frequencies: &[i64]) -> io::Result<()> {
+    attempt(rt, b"none", powers, frequencies, 10_000, 50_000, 10, 0)?;
     attempt(
+        rt,
         b"at the limits",
         powers,
         frequencies,
@@ -32,8 +37,9 @@ fn at_the_limits(powers: &[i64], frequencies: &[i64]) {
         10_000_000,
         -240,
         -100_000,
-    );
+    )?;
     attempt(
+        rt,
         b"least factor",
         powers,
         frequencies,
@@ -41,12 +47,22 @@ fn at_the_limits(powers: &[i64], frequencies: &[i64]) {
         50_000,
         -240,
         0,
-    );
-    attempt(b"least capacity", powers, frequencies, 1, 0, 10, 100_000);
+    )?;
+    attempt(
+        rt,
+        b"least capacity",
+        powers,
+        frequencies,
+        1,
+        0,
+        10,
+        100_000,
+    )
 }
 
 // An hour of 7 in each place of the lent run, with the capacity, charge price, factor and last target as given.
 fn attempt(
+    rt: &impl Print,
     label: &[u8],
     powers: &[i64],
     frequencies: &[i64],
@@ -54,7 +70,7 @@ fn attempt(
     charge: i64,
     factor: i64,
     target: i64,
-) {
+) -> io::Result<()> {
     let mut scores = [7u8; limits::SECONDS];
     let terms = Terms {
         capacity: Kilowatts(capacity),
@@ -67,6 +83,7 @@ fn attempt(
         targets: [0, 0, 0, 0, target],
     };
     worked(
+        rt,
         label,
         powers,
         frequencies,
@@ -74,11 +91,12 @@ fn attempt(
         shift,
         factor,
         &mut scores,
-    );
+    )
 }
 
 // The settlement, then a check sum of the run.
 fn worked(
+    rt: &impl Print,
     label: &[u8],
     powers: &[i64],
     frequencies: &[i64],
@@ -86,7 +104,7 @@ fn worked(
     shift: Shift,
     factor: i64,
     scores: &mut [u8],
-) {
+) -> io::Result<()> {
     let thresholds = [95i64, 0];
     let factors = [factor, -10];
     let none = [0u8; 0];
@@ -101,15 +119,16 @@ fn worked(
         &none,
         scores,
     );
-    hour_cases::settlement(label, s);
-    text::count(readings::score_sum(scores));
-    text::end();
+    hour_cases::settlement(rt, label, s)?;
+    text::count(rt, readings::score_sum(scores))?;
+    text::end(rt)
 }
 
 // One fault at a time, in the capacity and the prices; then in the bands and the targets.
-fn single(powers: &[i64], frequencies: &[i64]) {
-    attempt(b"capacity 0", powers, frequencies, 0, 50_000, 10, 0);
+fn single(rt: &impl Print, powers: &[i64], frequencies: &[i64]) -> io::Result<()> {
+    attempt(rt, b"capacity 0", powers, frequencies, 0, 50_000, 10, 0)?;
     attempt(
+        rt,
         b"capacity above",
         powers,
         frequencies,
@@ -117,8 +136,9 @@ fn single(powers: &[i64], frequencies: &[i64]) {
         50_000,
         10,
         0,
-    );
+    )?;
     attempt(
+        rt,
         b"price above",
         powers,
         frequencies,
@@ -126,13 +146,18 @@ fn single(powers: &[i64], frequencies: &[i64]) {
         10_000_001,
         10,
         0,
-    );
-    attempt(b"price below", powers, frequencies, 10_000, -1, 10, 0);
+    )?;
+    attempt(rt, b"price below", powers, frequencies, 10_000, -1, 10, 0)
 }
 
-fn single_in_bands_and_targets(powers: &[i64], frequencies: &[i64]) {
-    attempt(b"factor 11", powers, frequencies, 10_000, 50_000, 11, 0);
+fn single_in_bands_and_targets(
+    rt: &impl Print,
+    powers: &[i64],
+    frequencies: &[i64],
+) -> io::Result<()> {
+    attempt(rt, b"factor 11", powers, frequencies, 10_000, 50_000, 11, 0)?;
     attempt(
+        rt,
         b"target above",
         powers,
         frequencies,
@@ -140,8 +165,9 @@ fn single_in_bands_and_targets(powers: &[i64], frequencies: &[i64]) {
         50_000,
         10,
         100_001,
-    );
+    )?;
     attempt(
+        rt,
         b"target below",
         powers,
         frequencies,
@@ -149,13 +175,14 @@ fn single_in_bands_and_targets(powers: &[i64], frequencies: &[i64]) {
         50_000,
         10,
         -100_001,
-    );
+    )
 }
 
-fn short_scores(powers: &[i64], frequencies: &[i64]) {
+fn short_scores(rt: &impl Print, powers: &[i64], frequencies: &[i64]) -> io::Result<()> {
     let mut scores = [7u8; 3599];
     let shift = hour_cases::shift_of([0, 0, 0, 0, 0]);
     worked(
+        rt,
         b"3,599 scores",
         powers,
         frequencies,
@@ -163,13 +190,23 @@ fn short_scores(powers: &[i64], frequencies: &[i64]) {
         shift,
         10,
         &mut scores,
-    );
+    )
 }
 
 // A last power that is past its limit, and one fault more each time.
-fn several(powers: &[i64], frequencies: &[i64]) {
-    attempt(b"a power above", powers, frequencies, 10_000, 50_000, 10, 0);
+fn several(rt: &impl Print, powers: &[i64], frequencies: &[i64]) -> io::Result<()> {
     attempt(
+        rt,
+        b"a power above",
+        powers,
+        frequencies,
+        10_000,
+        50_000,
+        10,
+        0,
+    )?;
+    attempt(
+        rt,
         b"and a target",
         powers,
         frequencies,
@@ -177,8 +214,9 @@ fn several(powers: &[i64], frequencies: &[i64]) {
         50_000,
         10,
         100_001,
-    );
+    )?;
     attempt(
+        rt,
         b"and a factor",
         powers,
         frequencies,
@@ -186,10 +224,29 @@ fn several(powers: &[i64], frequencies: &[i64]) {
         50_000,
         11,
         100_001,
-    );
-    attempt(b"and a price", powers, frequencies, 10_000, -1, 11, 100_001);
-    attempt(b"and the capacity", powers, frequencies, 0, -1, 11, 100_001);
+    )?;
     attempt(
+        rt,
+        b"and a price",
+        powers,
+        frequencies,
+        10_000,
+        -1,
+        11,
+        100_001,
+    )?;
+    attempt(
+        rt,
+        b"and the capacity",
+        powers,
+        frequencies,
+        0,
+        -1,
+        11,
+        100_001,
+    )?;
+    attempt(
+        rt,
         b"i64",
         powers,
         frequencies,
@@ -197,13 +254,13 @@ fn several(powers: &[i64], frequencies: &[i64]) {
         i64::MAX,
         i64::MIN,
         i64::MAX,
-    );
+    )
 }
 
 // Runs of another length, with every fault.
-fn lengths(powers: &[i64], frequencies: &[i64]) {
+fn lengths(rt: &impl Print, powers: &[i64], frequencies: &[i64]) -> io::Result<()> {
     let short = [200_001i64; 3599];
-    attempt(b"3,599 powers", &short, frequencies, 0, -1, 11, 100_001);
-    attempt(b"3,599 frequencies", powers, &short, 0, -1, 11, 100_001);
-    attempt(b"neither", &short, &short, 10_000, 50_000, 10, 0);
+    attempt(rt, b"3,599 powers", &short, frequencies, 0, -1, 11, 100_001)?;
+    attempt(rt, b"3,599 frequencies", powers, &short, 0, -1, 11, 100_001)?;
+    attempt(rt, b"neither", &short, &short, 10_000, 50_000, 10, 0)
 }

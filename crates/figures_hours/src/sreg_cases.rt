@@ -4,24 +4,25 @@ use crate::{hour_cases, readings, text};
 use hour::Terms;
 use sreg::EventState;
 use sreg_hour::Settled;
+use std::io;
 use units::{Kilowatts, limits};
 
 // 10 MW; from 12 minutes 10 seconds to 12 minutes 30.
-pub(crate) fn table_2() {
-    text::heading(b"document 001, table 2: an sReg event");
+pub(crate) fn table_2(rt: &impl Print) -> io::Result<()> {
+    text::heading(rt, b"document 001, table 2: an sReg event")?;
     let mut powers = [0i64; limits::SECONDS];
     readings::fill(&mut powers, 0, limits::SECONDS, Rule::Table2);
-    from_eleventh(&powers);
+    from_eleventh(rt, &powers)
 }
 
 // The paper prints the eleven seconds that the event judges.
-fn from_eleventh(powers: &[i64]) {
+fn from_eleventh(rt: &impl Print, powers: &[i64]) -> io::Result<()> {
     let mut frequencies = [59_881i64; limits::SECONDS];
     let mut scores = [7u8; limits::SECONDS];
     event(&mut frequencies, 730, 750);
-    from_outside(b"the hour", powers, &frequencies, &mut scores);
-    score_line(&scores[740..751]);
-    rolling_line(&scores[737..751]);
+    from_outside(rt, b"the hour", powers, &frequencies, &mut scores)?;
+    score_line(rt, &scores[740..751])?;
+    rolling_line(rt, &scores[737..751])
 }
 
 // From a second at 59,880 to one at 59,980. In between the frequency is just below, which ends no event; outside, it
@@ -33,13 +34,15 @@ pub(crate) fn event(frequencies: &mut [i64], first: usize, last: usize) {
 }
 
 fn from_outside(
+    rt: &impl Print,
     label: &[u8],
     powers: &[i64],
     frequencies: &[i64],
     scores: &mut [u8],
-) -> EventState {
+) -> io::Result<EventState> {
     let none = [0u8; 0];
     after(
+        rt,
         label,
         powers,
         frequencies,
@@ -51,15 +54,17 @@ fn from_outside(
 
 // The hour after one that ended in these scores and this state.
 fn after(
+    rt: &impl Print,
     label: &[u8],
     powers: &[i64],
     frequencies: &[i64],
     earlier: &[u8],
     state: EventState,
     scores: &mut [u8],
-) -> EventState {
+) -> io::Result<EventState> {
     let terms = hour_cases::terms();
     work(
+        rt,
         label,
         powers,
         frequencies,
@@ -73,6 +78,7 @@ fn after(
 
 // An hour on list S with this first factor: its settlement, a check sum of the run that it leaves, its state.
 pub(crate) fn work(
+    rt: &impl Print,
     label: &[u8],
     powers: &[i64],
     frequencies: &[i64],
@@ -81,7 +87,7 @@ pub(crate) fn work(
     earlier: &[u8],
     state: EventState,
     scores: &mut [u8],
-) -> EventState {
+) -> io::Result<EventState> {
     let thresholds = [95i64, 94, 93, 92, 91, 70, 0];
     let factors = [factor, 8, 6, 4, 2, 0, -10];
     let s = sreg_hour::sreg_hour(
@@ -94,54 +100,51 @@ pub(crate) fn work(
         state,
         scores,
     );
-    told(label, s, scores)
+    told(rt, label, s, scores)
 }
 
-fn told(label: &[u8], s: Settled, scores: &[u8]) -> EventState {
+fn told(rt: &impl Print, label: &[u8], s: Settled, scores: &[u8]) -> io::Result<EventState> {
     let state = s.state;
-    hour_cases::settlement(label, s.hour);
-    text::count(readings::score_sum(scores));
-    state_told(state);
-    text::end();
-    state
+    hour_cases::settlement(rt, label, s.hour)?;
+    text::count(rt, readings::score_sum(scores))?;
+    state_told(rt, state)?;
+    text::end(rt)?;
+    Ok(state)
 }
 
 // A state as the desk prints it: kind, power, count.
-pub(crate) fn state_told(state: EventState) {
+pub(crate) fn state_told(rt: &impl Print, state: EventState) -> io::Result<()> {
     match state {
-        EventState::Outside => three(0, Kilowatts(0), 0),
-        EventState::Responding { start, scored } => three(1, start, scored),
-        EventState::Holding { start } => three(2, start, 0),
-        EventState::Recovering { left } => three(3, Kilowatts(0), left),
+        EventState::Outside => three(rt, 0, Kilowatts(0), 0)?,
+        EventState::Responding { start, scored } => three(rt, 1, start, scored)?,
+        EventState::Holding { start } => three(rt, 2, start, 0)?,
+        EventState::Recovering { left } => three(rt, 3, Kilowatts(0), left)?,
     }
+    Ok(())
 }
 
-fn three(kind: u8, power: Kilowatts, count: u8) {
-    text::byte(kind);
-    text::number(power.0);
-    text::byte(count);
+fn three(rt: &impl Print, kind: u8, power: Kilowatts, count: u8) -> io::Result<()> {
+    text::byte(rt, kind)?;
+    text::number(rt, power.0)?;
+    text::byte(rt, count)
 }
 
-fn score_line(scores: &[u8]) {
-    io::write_all(1, b"scores");
-    let mut i = 0;
-    while i < scores.len() {
-        text::byte(scores[i]);
-        i += 1;
+fn score_line(rt: &impl Print, scores: &[u8]) -> io::Result<()> {
+    rt.write_all(b"scores")?;
+    for score in scores {
+        text::byte(rt, *score)?;
     }
-    text::end();
+    text::end(rt)
 }
 
 // The rolling rates of the seconds from the fourth on.
-fn rolling_line(scores: &[u8]) {
-    io::write_all(1, b"rolling");
-    let mut i = 3;
-    while i < scores.len() {
+fn rolling_line(rt: &impl Print, scores: &[u8]) -> io::Result<()> {
+    rt.write_all(b"rolling")?;
+    for i in 3..scores.len() {
         let oldest = i - 3;
-        text::byte(rolling_rate(&scores[oldest..i], scores[i]));
-        i += 1;
+        text::byte(rt, rolling_rate(&scores[oldest..i], scores[i]))?;
     }
-    text::end();
+    text::end(rt)
 }
 
 // A second's rolling rate: the rate of an hour that scores 100 from the next second on.
@@ -154,101 +157,119 @@ fn rolling_rate(before: &[u8], score: u8) -> u8 {
 
 // At 6 MW a second scores 60 outside, and 0 where an event judges it: 59,980 is reached in an event's second, tenth and
 // eleventh second. The last event starts in the hour's last second.
-pub(crate) fn ends() {
-    text::heading(b"document 02, #103: where an event ends");
-    steady(3_585, 3_586);
-    steady(3_585, 3_594);
-    steady(3_585, 3_595);
-    steady(3_599, 3_600);
-    below_100();
-    falls_again();
+pub(crate) fn ends(rt: &impl Print) -> io::Result<()> {
+    text::heading(rt, b"document 02, #103: where an event ends")?;
+    steady(rt, 3_585, 3_586)?;
+    steady(rt, 3_585, 3_594)?;
+    steady(rt, 3_585, 3_595)?;
+    steady(rt, 3_599, 3_600)?;
+    below_100(rt)?;
+    falls_again(rt)
 }
 
-fn steady(first: usize, last: usize) {
+fn steady(rt: &impl Print, first: usize, last: usize) -> io::Result<()> {
     let powers = [6_000i64; limits::SECONDS];
     let mut frequencies = [59_881i64; limits::SECONDS];
     event(&mut frequencies, first, last);
-    io::write_all(1, b"event");
-    text::count(first as u64);
-    text::count(last as u64);
-    last_seconds(b"", &powers, &frequencies);
+    rt.write_all(b"event")?;
+    text::count(rt, first as u64)?;
+    text::count(rt, last as u64)?;
+    last_seconds(rt, b"", &powers, &frequencies)
 }
 
 // An hour, and its last sixteen scores.
-fn last_seconds(label: &[u8], powers: &[i64], frequencies: &[i64]) {
+fn last_seconds(
+    rt: &impl Print,
+    label: &[u8],
+    powers: &[i64],
+    frequencies: &[i64],
+) -> io::Result<()> {
     let mut scores = [7u8; limits::SECONDS];
-    from_outside(label, powers, frequencies, &mut scores);
-    score_line(&scores[3_584..]);
+    from_outside(rt, label, powers, frequencies, &mut scores)?;
+    score_line(rt, &scores[3_584..])
 }
 
 // The end second is judged: with the three before it, it makes a window of 60.
-fn below_100() {
+fn below_100(rt: &impl Print) -> io::Result<()> {
     let mut powers = [10_000i64; limits::SECONDS];
     let mut frequencies = [59_881i64; limits::SECONDS];
     readings::stretch(&mut powers, 3_581, 3_591, 0);
     readings::stretch(&mut powers, 3_591, limits::SECONDS, 4_000);
     event(&mut frequencies, 3_580, 3_594);
-    last_seconds(b"an end second of 60", &powers, &frequencies);
+    last_seconds(rt, b"an end second of 60", &powers, &frequencies)
 }
 
 // The tenth second after an event starts another, which is judged by its own start power.
-fn falls_again() {
+fn falls_again(rt: &impl Print) -> io::Result<()> {
     let mut powers = [6_000i64; limits::SECONDS];
     let mut frequencies = [59_881i64; limits::SECONDS];
     readings::put(&mut powers, 3_587, 13_000);
     event(&mut frequencies, 3_575, 3_577);
     event(&mut frequencies, 3_587, limits::SECONDS);
-    last_seconds(b"a fall in the tenth second after", &powers, &frequencies);
+    last_seconds(
+        rt,
+        b"a fall in the tenth second after",
+        &powers,
+        &frequencies,
+    )
 }
 
 // An event over the hour's end. The first hour's scores end in 90, 0, 0, and the second's begin with 0.
-pub(crate) fn in_a_row() {
-    text::heading(b"two sReg hours, one after the other");
+pub(crate) fn in_a_row(rt: &impl Print) -> io::Result<()> {
+    text::heading(rt, b"two sReg hours, one after the other")?;
     let mut powers = [20_000i64; limits::SECONDS];
     readings::stretch(&mut powers, 3_590, 3_597, 10_000);
     readings::put(&mut powers, 3_597, 11_000);
-    first(&powers);
+    first(rt, &powers)
 }
 
-fn first(powers: &[i64]) {
+fn first(rt: &impl Print, powers: &[i64]) -> io::Result<()> {
     let mut frequencies = [59_881i64; limits::SECONDS];
     let mut scores = [7u8; limits::SECONDS];
     event(&mut frequencies, 3_580, limits::SECONDS);
-    let state = from_outside(b"the first", powers, &frequencies, &mut scores);
-    second(&scores[3_597..], state);
+    let state = from_outside(rt, b"the first", powers, &frequencies, &mut scores)?;
+    second(rt, &scores[3_597..], state)
 }
 
 // The event ends in the fifth second, at 50.
-fn second(earlier: &[u8], state: EventState) {
+fn second(rt: &impl Print, earlier: &[u8], state: EventState) -> io::Result<()> {
     let mut powers = [10_000i64; limits::SECONDS];
     let mut frequencies = [59_979i64; limits::SECONDS];
     readings::stretch(&mut frequencies, 4, limits::SECONDS, 59_980);
     readings::put(&mut powers, 0, 20_000);
     readings::stretch(&mut powers, 4, 15, 15_000);
-    handed(&powers, &frequencies, earlier, state);
+    handed(rt, &powers, &frequencies, earlier, state)
 }
 
-fn handed(powers: &[i64], frequencies: &[i64], earlier: &[u8], state: EventState) {
+fn handed(
+    rt: &impl Print,
+    powers: &[i64],
+    frequencies: &[i64],
+    earlier: &[u8],
+    state: EventState,
+) -> io::Result<()> {
     let none = [0u8; 0];
-    first_seconds(b"the second", powers, frequencies, earlier, state);
+    first_seconds(rt, b"the second", powers, frequencies, earlier, state)?;
     first_seconds(
+        rt,
         b"the second, by itself",
         powers,
         frequencies,
         &none,
         EventState::Outside,
-    );
+    )
 }
 
 // An hour, and its first sixteen scores.
 fn first_seconds(
+    rt: &impl Print,
     label: &[u8],
     powers: &[i64],
     frequencies: &[i64],
     earlier: &[u8],
     state: EventState,
-) {
+) -> io::Result<()> {
     let mut scores = [7u8; limits::SECONDS];
-    after(label, powers, frequencies, earlier, state, &mut scores);
-    score_line(&scores[0..16]);
+    after(rt, label, powers, frequencies, earlier, state, &mut scores)?;
+    score_line(rt, &scores[0..16])
 }

@@ -3,49 +3,57 @@ use crate::{hour_cases, joint_cases, sreg_cases, text};
 use hour::Terms;
 use month::Month;
 use sreg::EventState;
+use std::io;
 use units::{Kilowatts, limits};
 
-pub(crate) fn hours() {
-    text::heading(b"refused sReg hours: 1, 2, 3, 5, 4 in this order");
-    lengths();
-    single();
-    several();
-    text::heading(b"states that an hour can end in, and others");
-    responding();
-    holding_recovering();
+pub(crate) fn hours(rt: &impl Print) -> io::Result<()> {
+    text::heading(rt, b"refused sReg hours: 1, 2, 3, 5, 4 in this order")?;
+    lengths(rt)?;
+    single(rt)?;
+    several(rt)?;
+    text::heading(rt, b"states that an hour can end in, and others")?;
+    responding(rt)?;
+    holding_recovering(rt)
 }
 
 // One run of another length at a time.
-fn lengths() {
+fn lengths(rt: &impl Print) -> io::Result<()> {
     let none = [0u8; 0];
     let two = [100u8; 2];
     let short = [60_000i64; 3599];
     let run = [60_000i64; limits::SECONDS];
-    sized(&short, &run, &none);
-    sized(&run, &short, &none);
-    sized(&run, &run, &two);
-    short_scores(&run, &none);
+    sized(rt, &short, &run, &none)?;
+    sized(rt, &run, &short, &none)?;
+    sized(rt, &run, &run, &two)?;
+    short_scores(rt, &run, &none)
 }
 
-fn sized(powers: &[i64], frequencies: &[i64], earlier: &[u8]) {
+fn sized(rt: &impl Print, powers: &[i64], frequencies: &[i64], earlier: &[u8]) -> io::Result<()> {
     let mut scores = [7u8; limits::SECONDS];
-    lent(powers, frequencies, earlier, &mut scores);
+    lent(rt, powers, frequencies, earlier, &mut scores)
 }
 
-fn short_scores(run: &[i64], earlier: &[u8]) {
+fn short_scores(rt: &impl Print, run: &[i64], earlier: &[u8]) -> io::Result<()> {
     let mut scores = [7u8; 3599];
-    lent(run, run, earlier, &mut scores);
+    lent(rt, run, run, earlier, &mut scores)
 }
 
-fn lent(powers: &[i64], frequencies: &[i64], earlier: &[u8], scores: &mut [u8]) {
-    io::write_all(1, b"lengths");
-    text::count(powers.len() as u64);
-    text::count(frequencies.len() as u64);
-    text::count(earlier.len() as u64);
-    text::count(scores.len() as u64);
+fn lent(
+    rt: &impl Print,
+    powers: &[i64],
+    frequencies: &[i64],
+    earlier: &[u8],
+    scores: &mut [u8],
+) -> io::Result<()> {
+    rt.write_all(b"lengths")?;
+    text::count(rt, powers.len() as u64)?;
+    text::count(rt, frequencies.len() as u64)?;
+    text::count(rt, earlier.len() as u64)?;
+    text::count(rt, scores.len() as u64)?;
     let terms = hour_cases::terms();
     let outside = EventState::Outside;
     sreg_cases::work(
+        rt,
         b"",
         powers,
         frequencies,
@@ -54,22 +62,32 @@ fn lent(powers: &[i64], frequencies: &[i64], earlier: &[u8], scores: &mut [u8]) 
         earlier,
         outside,
         scores,
-    );
+    )?;
+    Ok(())
 }
 
 // One fault at a time, after none.
-fn single() {
-    attempt(10_000, 43_000, 10, 6_000, 60_000, 100);
-    attempt(0, 43_000, 10, 6_000, 60_000, 100);
-    attempt(10_000, -1, 10, 6_000, 60_000, 100);
-    attempt(10_000, 43_000, 11, 6_000, 60_000, 100);
-    attempt(10_000, 43_000, 10, 200_001, 60_000, 100);
-    attempt(10_000, 43_000, 10, 6_000, 65_001, 100);
-    attempt(10_000, 43_000, 10, 6_000, 60_000, 101);
+fn single(rt: &impl Print) -> io::Result<()> {
+    attempt(rt, 10_000, 43_000, 10, 6_000, 60_000, 100)?;
+    attempt(rt, 0, 43_000, 10, 6_000, 60_000, 100)?;
+    attempt(rt, 10_000, -1, 10, 6_000, 60_000, 100)?;
+    attempt(rt, 10_000, 43_000, 11, 6_000, 60_000, 100)?;
+    attempt(rt, 10_000, 43_000, 10, 200_001, 60_000, 100)?;
+    attempt(rt, 10_000, 43_000, 10, 6_000, 65_001, 100)?;
+    attempt(rt, 10_000, 43_000, 10, 6_000, 60_000, 101)
 }
 
-fn attempt(capacity: i64, clearing: i64, factor: i64, power: i64, frequency: i64, earlier: u8) {
+fn attempt(
+    rt: &impl Print,
+    capacity: i64,
+    clearing: i64,
+    factor: i64,
+    power: i64,
+    frequency: i64,
+    earlier: u8,
+) -> io::Result<()> {
     tried(
+        rt,
         capacity,
         clearing,
         factor,
@@ -77,11 +95,12 @@ fn attempt(capacity: i64, clearing: i64, factor: i64, power: i64, frequency: i64
         frequency,
         earlier,
         EventState::Outside,
-    );
+    )
 }
 
 // An hour at one power and one frequency, after three scores of one number.
 fn tried(
+    rt: &impl Print,
     capacity: i64,
     clearing: i64,
     factor: i64,
@@ -89,29 +108,32 @@ fn tried(
     frequency: i64,
     earlier: u8,
     state: EventState,
-) {
+) -> io::Result<()> {
     let three = [earlier; 3];
-    terms_told(capacity, clearing, factor);
-    readings_told(power, frequency, earlier);
-    sreg_cases::state_told(state);
-    level(capacity, clearing, factor, power, frequency, &three, state);
+    terms_told(rt, capacity, clearing, factor)?;
+    readings_told(rt, power, frequency, earlier)?;
+    sreg_cases::state_told(rt, state)?;
+    level(
+        rt, capacity, clearing, factor, power, frequency, &three, state,
+    )
 }
 
-fn terms_told(capacity: i64, clearing: i64, factor: i64) {
-    io::write_all(1, b"hour");
-    text::number(capacity);
-    text::number(clearing);
-    text::number(factor);
+fn terms_told(rt: &impl Print, capacity: i64, clearing: i64, factor: i64) -> io::Result<()> {
+    rt.write_all(b"hour")?;
+    text::number(rt, capacity)?;
+    text::number(rt, clearing)?;
+    text::number(rt, factor)
 }
 
-fn readings_told(power: i64, frequency: i64, earlier: u8) {
-    text::number(power);
-    text::number(frequency);
-    text::byte(earlier);
+fn readings_told(rt: &impl Print, power: i64, frequency: i64, earlier: u8) -> io::Result<()> {
+    text::number(rt, power)?;
+    text::number(rt, frequency)?;
+    text::byte(rt, earlier)
 }
 
 // Of 7 in each place of the lent run.
 fn level(
+    rt: &impl Print,
     capacity: i64,
     clearing: i64,
     factor: i64,
@@ -119,7 +141,7 @@ fn level(
     frequency: i64,
     earlier: &[u8],
     state: EventState,
-) {
+) -> io::Result<()> {
     let powers = [power; limits::SECONDS];
     let frequencies = [frequency; limits::SECONDS];
     let mut scores = [7u8; limits::SECONDS];
@@ -129,6 +151,7 @@ fn level(
         performance: 35_000,
     };
     sreg_cases::work(
+        rt,
         b"",
         &powers,
         &frequencies,
@@ -137,92 +160,95 @@ fn level(
         earlier,
         state,
         &mut scores,
-    );
+    )?;
+    Ok(())
 }
 
 // Readings and a state with every fault, then one fault more each time.
-fn several() {
+fn several(rt: &impl Print) -> io::Result<()> {
     let state = EventState::Recovering { left: 11 };
     let two = [101u8; 2];
-    tried(10_000, 43_000, 10, 200_001, 65_001, 101, state);
-    tried(10_000, 43_000, 11, 200_001, 65_001, 101, state);
-    tried(10_000, -1, 11, 200_001, 65_001, 101, state);
-    tried(0, -1, 11, 200_001, 65_001, 101, state);
-    io::write_all(1, b"two earlier scores too");
-    level(0, -1, 11, 200_001, 65_001, &two, state);
+    tried(rt, 10_000, 43_000, 10, 200_001, 65_001, 101, state)?;
+    tried(rt, 10_000, 43_000, 11, 200_001, 65_001, 101, state)?;
+    tried(rt, 10_000, -1, 11, 200_001, 65_001, 101, state)?;
+    tried(rt, 0, -1, 11, 200_001, 65_001, 101, state)?;
+    rt.write_all(b"two earlier scores too")?;
+    level(rt, 0, -1, 11, 200_001, 65_001, &two, state)
 }
 
-fn responding() {
-    begun(10_000, 0);
-    begun(10_000, 9);
-    begun(10_000, 10);
-    begun(200_000, 1);
-    begun(200_001, 1);
+fn responding(rt: &impl Print) -> io::Result<()> {
+    begun(rt, 10_000, 0)?;
+    begun(rt, 10_000, 9)?;
+    begun(rt, 10_000, 10)?;
+    begun(rt, 200_000, 1)?;
+    begun(rt, 200_001, 1)
 }
 
-fn begun(start: i64, scored: u8) {
+fn begun(rt: &impl Print, start: i64, scored: u8) -> io::Result<()> {
     let state = EventState::Responding {
         start: Kilowatts(start),
         scored: scored,
     };
-    handed(state);
+    handed(rt, state)
 }
 
-fn handed(state: EventState) {
-    tried(10_000, 43_000, 10, 6_000, 60_000, 100, state);
+fn handed(rt: &impl Print, state: EventState) -> io::Result<()> {
+    tried(rt, 10_000, 43_000, 10, 6_000, 60_000, 100, state)
 }
 
-fn holding_recovering() {
-    held(-200_000);
-    held(-200_001);
-    left(0);
-    left(10);
-    left(11);
+fn holding_recovering(rt: &impl Print) -> io::Result<()> {
+    held(rt, -200_000)?;
+    held(rt, -200_001)?;
+    left(rt, 0)?;
+    left(rt, 10)?;
+    left(rt, 11)
 }
 
-fn held(start: i64) {
+fn held(rt: &impl Print, start: i64) -> io::Result<()> {
     let state = EventState::Holding {
         start: Kilowatts(start),
     };
-    handed(state);
+    handed(rt, state)
 }
 
-fn left(left: u8) {
-    handed(EventState::Recovering { left: left });
+fn left(rt: &impl Print, left: u8) -> io::Result<()> {
+    handed(rt, EventState::Recovering { left: left })
 }
 
 // Hours of a month of 30 days, each handed a state of so many seconds left, each ending in an event's first second.
-pub(crate) fn joint() {
-    text::heading(b"sReg joint calls");
+pub(crate) fn joint(rt: &impl Print) -> io::Result<()> {
+    text::heading(rt, b"sReg joint calls")?;
     let m = joint_cases::opened(30);
-    let m = join(10, m, 3, 10);
-    let m = join(10, m, 3, 10);
-    let m = join(10, m, 0, 10);
-    let m = join(11, m, 3, 10);
-    join(1, m, 3, 11);
+    let m = join(rt, 10, m, 3, 10)?;
+    let m = join(rt, 10, m, 3, 10)?;
+    let m = join(rt, 10, m, 0, 10)?;
+    let m = join(rt, 11, m, 3, 10)?;
+    join(rt, 1, m, 3, 11)?;
+    Ok(())
 }
 
-fn join(left: u8, m: Month, day: u8, hour: u8) -> Month {
+fn join(rt: &impl Print, left: u8, m: Month, day: u8, hour: u8) -> io::Result<Month> {
     let powers = [10_000i64; limits::SECONDS];
     let mut frequencies = [59_881i64; limits::SECONDS];
     sreg_cases::event(&mut frequencies, 3_599, limits::SECONDS);
-    io::write_all(1, b"joint");
-    text::byte(left);
-    text::byte(day);
-    text::byte(hour);
+    rt.write_all(b"joint")?;
+    text::byte(rt, left)?;
+    text::byte(rt, day)?;
+    text::byte(rt, hour)?;
     let state = EventState::Recovering { left: left };
-    posted(&powers, &frequencies, state, m, day, hour)
+    posted(rt, &powers, &frequencies, state, m, day, hour)
 }
 
 // The settlement and the state, then the ledger after it.
 fn posted(
+    rt: &impl Print,
     powers: &[i64],
     frequencies: &[i64],
     state: EventState,
     m: Month,
     day: u8,
     hour: u8,
-) -> Month {
+) -> io::Result<Month> {
     let thresholds = [95i64, 94, 93, 92, 91, 70, 0];
     let factors = [10i64, 8, 6, 4, 2, 0, -10];
     let none = [0u8; 0];
@@ -241,8 +267,8 @@ fn posted(
     let after = j.state;
     let joined = j.joined;
     let month = joined.month;
-    hour_cases::settlement(b"", joined.hour);
-    sreg_cases::state_told(after);
-    joint_cases::ledger(month, day, hour);
-    month
+    hour_cases::settlement(rt, b"", joined.hour)?;
+    sreg_cases::state_told(rt, after)?;
+    joint_cases::ledger(rt, month, day, hour)?;
+    Ok(month)
 }

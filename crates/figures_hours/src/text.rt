@@ -1,29 +1,26 @@
 // Lines of the output.
-pub(crate) fn heading(title: &[u8]) {
-    io::write_all(1, title);
-    io::write_all(1, b"\n");
+use std::io;
+
+pub(crate) fn heading(rt: &impl Print, title: &[u8]) -> io::Result<()> {
+    rt.write_all(title)?;
+    rt.write_all(b"\n")
 }
 
 // A number, with a space before it.
-pub(crate) fn number(x: i64) {
-    io::write_all(1, b" ");
-    if x < 0 {
-        io::write_all(1, b"-");
-    }
-    io::print_decimal(1, whole::size(x));
+pub(crate) fn number(rt: &impl Print, x: i64) -> io::Result<()> {
+    print!(rt; " {x}")
 }
 
-pub(crate) fn end() {
-    io::write_all(1, b"\n");
+pub(crate) fn end(rt: &impl Print) -> io::Result<()> {
+    rt.write_all(b"\n")
 }
 
 // A byte's number: a refusal, a rate, an hour.
-pub(crate) fn byte(x: u8) {
-    number(x as i64);
+pub(crate) fn byte(rt: &impl Print, x: u8) -> io::Result<()> {
+    number(rt, x as i64)
 }
 
 // A count, with a space before it.
-pub(crate) fn count(n: u64) {
-    io::write_all(1, b" ");
-    io::print_decimal(1, n);
+pub(crate) fn count(rt: &impl Print, n: u64) -> io::Result<()> {
+    print!(rt; " {n}")
 }

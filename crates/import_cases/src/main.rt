@@ -1,9 +1,13 @@
 // The run cases of the program `import`. The input has them one after another: a heading, a byte 01, the input of the
 // case, a byte 00. Each goes to crates/import_text in chunks of one byte, the smallest there are, and what it comes to
 // is written under the heading.
+#![tactic(auto)]
+
 ghost use Rattle.std.specs.Prelude.{length, ◌≡◌};
 
 use import_text::Gathered;
+use std::io;
+use std::io::{Read, Write};
 
 // Where the reading stands: in a heading, or in a case.
 #[derive(Drop)]
@@ -34,84 +38,98 @@ fn room() -> [u8; import_text::ROOM]
 }
 
 // A piece of a heading is written as it is, a piece of a case is kept.
-fn take_piece(case: Case, piece: &[u8], kept: &mut [u8]) -> Case {
+fn take_piece(
+    writer: &mut impl Write,
+    case: Case,
+    piece: &[u8],
+    kept: &mut [u8],
+) -> io::Result<Case> {
     if case.heading {
-        io::write_all(1, piece);
-        return case;
+        writer.write_all(piece)?;
+        return Ok(case);
     }
-    let state = case.state;
-    Case {
+    Ok(Case {
         heading: false,
-        state: import_text::gather(state, piece, kept),
-    }
+        state: import_text::gather(case.state, piece, kept),
+    })
 }
 
 // What a case comes to that ends.
-fn end_case(len: usize, kept: &[u8]) {
+fn end_case(writer: &mut impl Write, len: usize, kept: &[u8]) -> io::Result<()> {
     let mut out = room();
     if kept.len() < len {
-        return;
+        return Ok(());
     }
     let printed = import_text::answer(&kept[..len], &mut out);
-    io::write_all(1, &out[..printed.written]);
+    writer.write_all(&out[..printed.written])
 }
 
 // A byte of the input: 01 ends a heading, 00 ends a case.
-fn take_byte(case: Case, byte: u8, kept: &mut [u8]) -> Case {
+fn take_byte(writer: &mut impl Write, case: Case, byte: u8, kept: &mut [u8]) -> io::Result<Case> {
     if byte == 1 {
-        io::write_all(1, b"\n");
-        return Case {
+        writer.write_all(b"\n")?;
+        return Ok(Case {
             heading: false,
             state: import_text::start(),
-        };
+        });
     }
     if byte == 0 {
-        let state = case.state;
-        end_case(state.len, kept);
-        return Case {
+        end_case(writer, case.state.len, kept)?;
+        return Ok(Case {
             heading: true,
             state: import_text::start(),
-        };
+        });
     }
-    let piece = [byte];
-    take_piece(case, &piece, kept)
+    take_piece(writer, case, &[byte], kept)
 }
 
-fn take_all(case: Case, bytes: &[u8], kept: &mut [u8]) -> Case {
+fn take_all(
+    writer: &mut impl Write,
+    case: Case,
+    bytes: &[u8],
+    kept: &mut [u8],
+) -> io::Result<Case> {
     let mut now = case;
-    let mut i = 0;
-    while i < bytes.len() {
-        now = take_byte(now, bytes[i], kept);
-        i += 1;
+    for byte in bytes {
+        now = take_byte(writer, now, *byte, kept)?;
     }
-    now
+    Ok(now)
 }
 
-fn read_once(case: Case, input: &mut [u8], kept: &mut [u8]) -> Turn {
-    let got = libc::read(0, input);
-    let n = io::count(got, input);
-    let next = take_all(case, &input[..n], kept);
-    Turn {
+fn read_once(
+    reader: &mut impl Read,
+    writer: &mut impl Write,
+    case: Case,
+    input: &mut [u8],
+    kept: &mut [u8],
+) -> io::Result<Turn> {
+    let n = reader.read(input)?;
+    let next = take_all(writer, case, &input[..n], kept)?;
+    Ok(Turn {
         case: next,
         more: 0 < n,
-    }
+    })
 }
 
-fn main() {
-    let mut input = io::buffer();
+fn main(rt: HostRuntime) -> io::Result<()> {
+    let mut input = [0u8; 4096];
     let mut kept = store();
-    let mut now = Turn {
-        case: Case {
-            heading: true,
-            state: import_text::start(),
-        },
-        more: true,
+    let mut case = Case {
+        heading: true,
+        state: import_text::start(),
     };
-    // A proved loop has to end: it counts its reads down.
-    let mut turns = 1_000_000u64;
-    while now.more & (0 < turns) {
-        let case = now.case;
-        now = read_once(case, &mut input, &mut kept);
-        turns -= 1;
+    for _ in 0..1_000_000 {
+        let turn = read_once(
+            &mut rt.stdin(),
+            &mut rt.stdout(),
+            case,
+            &mut input,
+            &mut kept,
+        )?;
+        case = turn.case;
+        if !turn.more {
+            break;
+        }
     }
+    Ok(())
 }

@@ -1,7 +1,11 @@
 // The run cases of the program `ledger`. The input has them one after another: a heading, a byte 01, the input of the
 // case, a byte 00. Each goes to crates/intake in chunks of one byte, the smallest there are, and its transcript is
 // written under the heading.
+#![tactic(auto)]
+
 use intake::Progress;
+use std::io;
+use std::io::{Read, Write};
 use units::limits;
 
 // Where the reading stands: in a heading, or in a case.
@@ -20,108 +24,118 @@ struct Turn {
 
 // A piece of a heading is written as it is, a piece of a case is fed.
 fn take_piece(
+    writer: &mut impl Write,
     case: Case,
     piece: &[u8],
     marks: &mut [bool],
     amounts: &mut [i64],
     out: &mut [u8],
-) -> Case {
+) -> io::Result<Case> {
     if case.heading {
-        io::write_all(1, piece);
-        return case;
+        writer.write_all(piece)?;
+        return Ok(case);
     }
-    let state = case.state;
-    let fed = intake::feed(state, piece, marks, amounts, out);
-    io::write_all(1, &out[..fed.written]);
-    let next = fed.state;
-    Case {
+    let fed = intake::feed(case.state, piece, marks, amounts, out);
+    writer.write_all(&out[..fed.written])?;
+    Ok(Case {
         heading: false,
-        state: next,
-    }
+        state: fed.state,
+    })
 }
 
 // The total of a case that ends.
-fn end_case(state: Progress, marks: &mut [bool], amounts: &mut [i64], out: &mut [u8]) {
+fn end_case(
+    writer: &mut impl Write,
+    state: Progress,
+    marks: &mut [bool],
+    amounts: &mut [i64],
+    out: &mut [u8],
+) -> io::Result<()> {
     let finished = intake::finish(state, marks, amounts, out);
-    io::write_all(1, &out[..finished.written]);
+    writer.write_all(&out[..finished.written])
 }
 
 // A byte of the input: 01 ends a heading, 00 ends a case.
 fn take_byte(
+    writer: &mut impl Write,
     case: Case,
     byte: u8,
     marks: &mut [bool],
     amounts: &mut [i64],
     out: &mut [u8],
-) -> Case {
+) -> io::Result<Case> {
     if byte == 1 {
-        io::write_all(1, b"\n");
-        return Case {
+        writer.write_all(b"\n")?;
+        return Ok(Case {
             heading: false,
             state: intake::start(),
-        };
+        });
     }
     if byte == 0 {
-        let state = case.state;
-        end_case(state, marks, amounts, out);
-        return Case {
+        end_case(writer, case.state, marks, amounts, out)?;
+        return Ok(Case {
             heading: true,
             state: intake::start(),
-        };
+        });
     }
-    let piece = [byte];
-    take_piece(case, &piece, marks, amounts, out)
+    take_piece(writer, case, &[byte], marks, amounts, out)
 }
 
 fn take_all(
+    writer: &mut impl Write,
     case: Case,
     bytes: &[u8],
     marks: &mut [bool],
     amounts: &mut [i64],
     out: &mut [u8],
-) -> Case {
+) -> io::Result<Case> {
     let mut now = case;
-    let mut i = 0;
-    while i < bytes.len() {
-        now = take_byte(now, bytes[i], marks, amounts, out);
-        i += 1;
+    for byte in bytes {
+        now = take_byte(writer, now, *byte, marks, amounts, out)?;
     }
-    now
+    Ok(now)
 }
 
 fn read_once(
+    reader: &mut impl Read,
+    writer: &mut impl Write,
     case: Case,
     input: &mut [u8],
     marks: &mut [bool],
     amounts: &mut [i64],
     out: &mut [u8],
-) -> Turn {
-    let got = libc::read(0, input);
-    let n = io::count(got, input);
-    let next = take_all(case, &input[..n], marks, amounts, out);
-    Turn {
+) -> io::Result<Turn> {
+    let n = reader.read(input)?;
+    let next = take_all(writer, case, &input[..n], marks, amounts, out)?;
+    Ok(Turn {
         case: next,
         more: 0 < n,
-    }
+    })
 }
 
-fn main() {
+fn main(rt: HostRuntime) -> io::Result<()> {
     let mut marks = [false; limits::PLACES];
     let mut amounts = [0i64; limits::PLACES];
-    let mut input = io::buffer();
+    let mut input = [0u8; 4096];
     let mut out = [0u8; 64];
-    let mut now = Turn {
-        case: Case {
-            heading: true,
-            state: intake::start(),
-        },
-        more: true,
+    let mut case = Case {
+        heading: true,
+        state: intake::start(),
     };
-    // A proved loop has to end: it counts its reads down.
-    let mut turns = 1_000_000u64;
-    while now.more & (0 < turns) {
-        let case = now.case;
-        now = read_once(case, &mut input, &mut marks, &mut amounts, &mut out);
-        turns -= 1;
+    for _ in 0..1_000_000 {
+        let turn = read_once(
+            &mut rt.stdin(),
+            &mut rt.stdout(),
+            case,
+            &mut input,
+            &mut marks,
+            &mut amounts,
+            &mut out,
+        )?;
+        case = turn.case;
+        if !turn.more {
+            break;
+        }
     }
+    Ok(())
 }
