@@ -22,7 +22,7 @@ use std::sync::atomic::{AtomicUsize, Ordering};
 use std::sync::Mutex;
 use tally::{compare, Tally};
 
-const USAGE: &str = "usage: check [--seed N] [--size N] [--part NAME] [--fault NAME] --programs DIR --room DIR [-- WORDS BEFORE A PROGRAM]
+const USAGE: &str = "usage: check [--seed N] [--size N] [--part NAME] [--fault NAME] --programs DIR --room DIR
        check --faults";
 
 // ---- the parts
@@ -210,13 +210,9 @@ fn report(parts: &[&Part], tallies: Vec<Tally>) -> bool {
 // ---- the command line
 
 fn settings(mut words: impl Iterator<Item = String>) -> Option<Settings> {
-    let runner = Runner { before: Vec::new(), programs: "".into(), room: "".into() };
+    let runner = Runner { programs: "".into(), room: "".into() };
     let mut settings = Settings { seed: 1, size: 1, part: String::new(), runner };
     while let Some(word) = words.next() {
-        if word == "--" {
-            settings.runner.before = words.collect();
-            break;
-        }
         let value = words.next()?;
         match word.as_str() {
             "--seed" => settings.seed = value.parse().ok()?,

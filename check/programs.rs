@@ -59,12 +59,9 @@ impl Program {
     }
 }
 
-/// Where the programs are and how they are started.
+/// Where the programs are, and the folder for inputs and outputs.
 pub struct Runner {
-    /// The words before a program's path: the toolchain's loader, and its emulator where one is needed.
-    pub before: Vec<String>,
     pub programs: PathBuf,
-    /// The folder for inputs and outputs.
     pub room: PathBuf,
 }
 
@@ -78,10 +75,7 @@ impl Runner {
         let (from, into) = (self.input_file(label), self.room.join(format!("{label}.out")));
         let failed = |error: std::io::Error| format!("{}: {error}", program.name());
         fs::write(&from, input).map_err(failed)?;
-        let path = self.programs.join(program.name());
-        let words: Vec<_> = self.before.iter().map(PathBuf::from).chain([path]).collect();
-        let child = Command::new(&words[0])
-            .args(&words[1..])
+        let child = Command::new(self.programs.join(program.name()))
             .stdin(File::open(&from).map_err(failed)?)
             .stdout(File::create(&into).map_err(failed)?)
             .stderr(Stdio::inherit())

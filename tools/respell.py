@@ -14,10 +14,9 @@ import os
 import re
 import sys
 
-ROOT = os.getcwd()
 OWN = sorted(c for c in os.listdir("crates") if os.path.isdir(f"crates/{c}/src"))
 TOKEN = re.compile(r"[^\s(){}\[\],;.λ→×«»⌜⌝∷⊢`\"]+")
-SIGNATURE = re.compile(r"^\s*(?:(?:pub|abbrev|unfoldable)\s+)*((?:[^\s(){}\[\],;.:=λ]+\s+)+):(?:\s|$)")
+SIGNATURE = re.compile(r"^\s*(?:(?:pub|abbrev|unfoldable)\s+)*((?:[^\s(){}\[\],;.:=λ]+\s+)+)(?:\{ℓ\} )?:(?:\s|$)")
 CAMEL = re.compile(r"^[a-z][a-z0-9']*[A-Z]")
 DASHED = re.compile(r"^[a-zμ][^\s-]*-")
 WORDS = {"pub", "abbrev", "unfoldable", "let", "record", "data", "module", "ruleset", "where"}
@@ -47,10 +46,7 @@ def declared():
     """name -> the files that declare it"""
     names = collections.defaultdict(set)
     for p in files(".antt"):
-        if re.search(r"/proofs/.*/(Proof|Answers|Invariants)\.antt$", p):
-            own = re.sub(r"--.*", "", read(p))
-        else:
-            own = re.sub(r"--.*", "", read(p))
+        own = re.sub(r"--.*", "", read(p))
         for line in own.split("\n"):
             m = SIGNATURE.match(line)
             if m:
