@@ -24,8 +24,9 @@ use Rattle.head.specs.Rules.{Fee, Item, month_rules}
 use Rattle.head.proofs.Sound.{month_sound}
 use Rattle.frame.specs.Kinds.{open_kind}
 use Rattle.frame.specs.Frame.{reading_of}
-use Rattle.frame.specs.declared.Reading.{Reading}
-use Rattle.frame.specs.declared.Reading.TheVariants.{Frame, Refused}
+use Rattle.std.specs.Prelude.{Result, Ok, Err}
+use Rattle.units.specs.declared.refusal.Refusal.{Refusal}
+use Rattle.frame.specs.declared.Entry.{Entry}
 use Rattle.lines.specs.Lines.{lines_of}
 use Rattle.intake.specs.Text.{verdict_text, total_text}
 use Rattle.book.specs.Book.{Book, call_of, open_refusal, open_book, call_refusal, call_book, asked_refusal, asked_book, frame_refusal, frame_book, reading_refusal, book_in}
@@ -99,18 +100,18 @@ opened_next book a days g =
 
 -- ---- a line
 
-line_number_lem : (book : Book) (a : Account) (r : Reading) → Agrees a.month a.history book → reading_refusal book r ≡ line_number month_rules a r
+line_number_lem : (book : Book) (a : Account) (r : Result Entry Refusal) → Agrees a.month a.history book → reading_refusal book r ≡ line_number month_rules a r
 unfolding frame_refusal
-line_number_lem book a (Frame e) g = ap₂ (pick (eqb e.kind open_kind)) (opened_number book a.month a.history e.day g) (asked_number_lem book a.month a.history (call_of e) g)
-line_number_lem book a (Refused n) g = refl
+line_number_lem book a (Ok e) g = ap₂ (pick (eqb e.kind open_kind)) (opened_number book a.month a.history e.day g) (asked_number_lem book a.month a.history (call_of e) g)
+line_number_lem book a (Err r) g = refl
 
-line_next : (book : Book) (a : Account) (r : Reading) → Agrees a.month a.history book → Agrees (account_in month_rules a r).month (account_in month_rules a r).history (book_in book r)
+line_next : (book : Book) (a : Account) (r : Result Entry Refusal) → Agrees a.month a.history book → Agrees (account_in month_rules a r).month (account_in month_rules a r).history (book_in book r)
 unfolding frame_book
-line_next book a (Frame e) g =
+line_next book a (Ok e) g =
     by_test (eqb e.kind open_kind)
     (λ (t : eqb e.kind open_kind ≡ true). rw t (opened_next book a e.day g))
     (λ (t : eqb e.kind open_kind ≡ false). rw t (asked_next book a.month a.history (call_of e) g))
-line_next book a (Refused n) g = g
+line_next book a (Err r) g = g
 
 -- that a line was counted is no part of it
 counted_agrees : (month : Option ℕ) (h : List (Recorded Fee Item)) (n : ℕ) (book : Book) → Agrees month h book → Agrees month h (counted_to n book)

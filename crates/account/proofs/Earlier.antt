@@ -19,8 +19,8 @@ use Rattle.head.specs.Rules.{Fee, basic, excess, Item, amount_item, month_rules}
 use Rattle.frame.specs.Kinds.{open_kind, post_kind, replace_kind, withdraw_kind, basic_fee_kind, close_kind, excess_fee_kind}
 use Rattle.frame.specs.Frame.{reading_of}
 use Rattle.frame.specs.declared.Entry.{Entry}
-use Rattle.frame.specs.declared.Reading.{Reading}
-use Rattle.frame.specs.declared.Reading.TheVariants.{Frame, Refused}
+use Rattle.std.specs.Prelude.{Result, Ok, Err}
+use Rattle.units.specs.declared.refusal.Refusal.{Refusal}
 use Rattle.intake.specs.Text.{verdict_text, total_text}
 use Rattle.intake.specs.Inner.{first_progress}
 use Rattle.book.specs.Book.{call_of}
@@ -82,18 +82,18 @@ asked_same (some days) h none = (refl, refl)
 asked_same none h (some c) = (refl, refl)
 asked_same (some days) h (some c) = (ruled_same days h c, λ i. record { call = c; answer = ruled_same days h c i } ∷ h)
 
-line_same : (a : Account) (r : Reading) → (line_number earlier_rules a r ≡ line_number month_rules a r) × (account_in earlier_rules a r ≡ account_in month_rules a r)
-line_same a (Frame e) =
+line_same : (a : Account) (r : Result Entry Refusal) → (line_number earlier_rules a r ≡ line_number month_rules a r) × (account_in earlier_rules a r ≡ account_in month_rules a r)
+line_same a (Ok e) =
     let s = asked_same a.month a.history (call_of e) in
     let open_first = eqb e.kind open_kind in (
       ap (pick open_first (open_number a.month e.day)) s.0,
       ap (λ (h : List (Recorded Fee Item)). pick open_first (kept (open_number a.month e.day) (record { month = some e.day; history = [] }) a) (record { month = a.month; history = h })) s.1,
     )
-line_same a (Refused n) = (refl, refl)
+line_same a (Err r) = (refl, refl)
 
-reading_same : (r : Reading) → NotExcess r → earlier_of r ≡ r
-reading_same (Frame e) f = rw (ne_eqb e.kind excess_fee_kind (f e refl))
-reading_same (Refused n) f = refl
+reading_same : (r : Result Entry Refusal) → NotExcess r → earlier_of r ≡ r
+reading_same (Ok e) f = rw (ne_eqb e.kind excess_fee_kind (f e refl))
+reading_same (Err r) f = refl
 
 -- what a line is answered, and the account that it leaves
 one_same : (a : Account) (l : List ℕ) → NotExcess (reading_of l) →
@@ -147,13 +147,13 @@ asked_unset month h none s u = u
 asked_unset none h (some c) s u = tt
 asked_unset (some days) h (some c) s u = kept_any (λ (z : ℤ). z ≡ pos 0) (ruling_after (month_rules days) h c) (λ _. s days (last_fee (month_rules days) h excess) ∙ u) u
 
-line_unset : (a : Account) (r : Reading) → NotExcess r → Unset a.month a.history → Unset (account_in month_rules a r).month (account_in month_rules a r).history
+line_unset : (a : Account) (r : Result Entry Refusal) → NotExcess r → Unset a.month a.history → Unset (account_in month_rules a r).month (account_in month_rules a r).history
 unfolding last_fee
-line_unset a (Frame e) f u =
+line_unset a (Ok e) f u =
     by_test (eqb e.kind open_kind)
     (λ (t : eqb e.kind open_kind ≡ true). rw t (kept_any (λ (n : Account). Unset n.month n.history) (open_number a.month e.day) (λ _. refl) u))
     (λ (t : eqb e.kind open_kind ≡ false). rw t (asked_unset a.month a.history (call_of e) (spares e (f e refl)) u))
-line_unset a (Refused n) f u = u
+line_unset a (Err r) f u = u
 
 lines_unset : (a : Account) (ls : List (List ℕ)) → WithoutExcess ls → Unset a.month a.history →
     let end = account_after month_rules reading_of a ls in

@@ -1,9 +1,10 @@
 -- From an input's bytes to the history of its frames (document 01, "Frames"; demand 3), and what is printed, told from that history alone: no board, no place and no lent run
 -- is in it.
-use Rattle.std.specs.Prelude.{ℕ, suc, ◌+◌, Bool, List, [], ◌∷◌, ◌++◌, eqb, ℤ, pos, take}
+use Rattle.std.specs.Prelude.{ℕ, suc, ◌+◌, Bool, List, [], ◌∷◌, ◌++◌, Result, Ok, Err, eqb, ℤ, pos, take}
 use Rattle.std.proofs.Math.Option.{Option, none, some}
 use Rattle.whole.specs.Choice.{pick, unless, kept}
-use Rattle.units.specs.Refusals.{bad_kind, not_open, not_in_month}
+use Rattle.units.specs.Refusals.{bad_kind, not_open, not_in_month, paper_number}
+use Rattle.units.specs.declared.refusal.Refusal.{Refusal}
 use Rattle.history.specs.Rules.{Call, Rules}
 use Rattle.history.specs.History.{Recorded, ruling_after, total_is}
 use Rattle.units.specs.Limits.{is_days}
@@ -11,8 +12,6 @@ use Rattle.head.specs.Rules.{Fee, Item, month_rules}
 use Rattle.frame.specs.Kinds.{open_kind}
 use Rattle.frame.specs.Frame.{reading_of}
 use Rattle.frame.specs.declared.Entry.{Entry}
-use Rattle.frame.specs.declared.Reading.{Reading}
-use Rattle.frame.specs.declared.Reading.TheVariants.{Frame, Refused}
 use Rattle.lines.specs.Lines.{line_end, lines_of}
 use Rattle.intake.specs.Text.{verdict_text, total_text}
 use Rattle.book.specs.Book.{call_of}
@@ -57,20 +56,20 @@ module _ (rules : ℕ → Rules Fee Bool ℤ) where
 
   -- ---- one line: "A line that doesn't read as a frame never reaches the ledger."
 
-  abbrev pub line_number : Account → Reading → ℕ
-  line_number a (Frame e) = pick (eqb e.kind open_kind) (open_number a.month e.day) (asked_number a.month a.history (call_of e))
-  line_number a (Refused n) = n
+  abbrev pub line_number : Account → Result Entry Refusal → ℕ
+  line_number a (Ok e) = pick (eqb e.kind open_kind) (open_number a.month e.day) (asked_number a.month a.history (call_of e))
+  line_number a (Err r) = paper_number r
 
-  abbrev pub account_in : Account → Reading → Account
-  account_in a (Frame e) =
+  abbrev pub account_in : Account → Result Entry Refusal → Account
+  account_in a (Ok e) =
       pick (eqb e.kind open_kind)
       (kept (open_number a.month e.day) (record { month = some e.day; history = [] }) a)
       (record { month = a.month; history = asked_history a.month a.history (call_of e) })
-  account_in a (Refused n) = a
+  account_in a (Err r) = a
 
   -- ---- all lines, by what each reads as
 
-  module _ (reads : List ℕ → Reading) where
+  module _ (reads : List ℕ → Result Entry Refusal) where
     abbrev pub account_after : Account → List (List ℕ) → Account
     account_after a [] = a
     account_after a (l ∷ ls) = account_after (account_in a (reads l)) ls
@@ -95,7 +94,7 @@ abbrev pub lines_read : List ℕ → List (List ℕ)
 lines_read input = take most_lines (lines_of input)
 
 -- what is printed of lines, told from their history
-abbrev pub printed_by : (ℕ → Rules Fee Bool ℤ) → (List ℕ → Reading) → List (List ℕ) → List ℕ
+abbrev pub printed_by : (ℕ → Rules Fee Bool ℤ) → (List ℕ → Result Entry Refusal) → List (List ℕ) → List ℕ
 printed_by rules reads lines =
     let end = account_after rules reads first_account lines in
     lines_told rules reads 0 first_account lines ++ total_text (total_after rules end.month end.history)

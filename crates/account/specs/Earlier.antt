@@ -1,14 +1,13 @@
 -- What document 02, #101, leaves as it was: what the program printed of an input while there was one loss fee, kind 04's, and no kind 06 (document 01, "Frames", "The ledger").
-use Rattle.std.specs.Prelude.{ℕ, ◌≡◌, Bool, List, [], ◌∷◌, eqb, ℤ}
+use Rattle.std.specs.Prelude.{ℕ, ◌≡◌, Bool, List, [], ◌∷◌, Result, Ok, Err, eqb, ℤ}
 use Rattle.whole.specs.Choice.{pick}
-use Rattle.units.specs.Refusals.{bad_kind}
+use Rattle.units.specs.Refusals.{bad_kind, refused_as}
+use Rattle.units.specs.declared.refusal.Refusal.{Refusal}
 use Rattle.history.specs.Rules.{Rules}
 use Rattle.head.specs.Rules.{Fee, basic, month_rules}
 use Rattle.frame.specs.Kinds.{excess_fee_kind}
 use Rattle.frame.specs.Frame.{reading_of}
 use Rattle.frame.specs.declared.Entry.{Entry}
-use Rattle.frame.specs.declared.Reading.{Reading}
-use Rattle.frame.specs.declared.Reading.TheVariants.{Frame, Refused}
 use Rattle.account.specs.Account.{lines_read, printed_by}
 
 -- "less the last accepted loss fee": one fee is taken away. The other is set by no line, since `earlier_reading` refuses kind 06
@@ -36,19 +35,19 @@ earlier_rules days =
     }
 
 -- "13: kind unknown": kind 06 was
-abbrev pub earlier_of : Reading → Reading
-earlier_of (Frame e) = pick (eqb e.kind excess_fee_kind) (Refused bad_kind) (Frame e)
-earlier_of (Refused n) = Refused n
+abbrev pub earlier_of : Result Entry Refusal → Result Entry Refusal
+earlier_of (Ok e) = pick (eqb e.kind excess_fee_kind) (refused_as bad_kind) (Ok e)
+earlier_of (Err r) = Err r
 
-abbrev pub earlier_reading : List ℕ → Reading
+abbrev pub earlier_reading : List ℕ → Result Entry Refusal
 earlier_reading line = earlier_of (reading_of line)
 
 unfoldable pub earlier_printed : List ℕ → List ℕ
 earlier_printed input = printed_by earlier_rules earlier_reading (lines_read input)
 
 -- a line that does not read as kind 06, and lines none of which does
-abbrev pub NotExcess : Reading → Type 0
-NotExcess r = (e : Entry) → r ≡ Frame e → e.kind ≡ excess_fee_kind → ⊥
+abbrev pub NotExcess : Result Entry Refusal → Type 0
+NotExcess r = (e : Entry) → r ≡ Ok e → e.kind ≡ excess_fee_kind → ⊥
 
 abbrev pub WithoutExcess : List (List ℕ) → Type 0
 WithoutExcess [] = Unit {0}

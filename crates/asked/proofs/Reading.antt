@@ -9,7 +9,7 @@ use lib.IntN.{ℤ}
 use lib.ListN.{length, get_or, drop, set, length-set}
 use Rattle.whole.specs.Choice.{pick}
 use Rattle.whole.proofs.Choice.{by_test, kept_any}
-use Rattle.whole.proofs.Runs.{rest, no_rest}
+use Rattle.whole.proofs.Runs.{rest}
 use Rattle.tokens.specs.Bytes.{parts}
 use Rattle.tokens.specs.Tokens.{token_number, step_of}
 use Rattle.asked.specs.Asking.{token_fault, begins, stepped}
@@ -80,15 +80,6 @@ module _ {start : State} {chunk : List ℕ} {begun : List ℤ} {reached : State}
       let n : taken_in start chunk ≡ i = s.taken_is ∙ omega arith in
       let d : ended_in start chunk ≡ true = s.ended_is ∙ rw (rest chunk i 0 h, e) in
       (rw (a, n, d), sym (s.run_is ∙ rw (rest chunk i 0 h, e)))
-
-  -- no byte is left
-  pub still_done : length chunk ≤ i → Stopped false
-  still_done h =
-      let none : taken_in reached (drop i chunk) ≡ 0 = rw (no_rest chunk i h) in
-      let a : state_in start chunk ≡ reached = s.state_is ∙ rw (no_rest chunk i h) in
-      let n : taken_in start chunk ≡ i = s.taken_is ∙ omega arith in
-      let d : ended_in start chunk ≡ false = s.ended_is ∙ rw (no_rest chunk i h) in
-      (rw (a, n, d), sym (s.run_is ∙ rw (no_rest chunk i h)))
 
 -- ---- how far a chunk is read
 

@@ -53,10 +53,8 @@ pub struct Reached {
     pub ended: bool,
 }
 
-// The last line that is counted.
-const LAST: u64 = 18_446_744_073_709_551_615;
-
 // The first state: line 1, nothing asked.
+#[tactic(auto, unfolding(crate::specs::Asking::start_state))]
 pub fn start() -> State
     ensures { result ≡ start_state }
 {
@@ -69,6 +67,7 @@ pub fn start() -> State
 
 // Goes through the chunk up to the byte that begins the next question, which is not taken, or through all of it. A run
 // of another length is refused with 1, and nothing is changed.
+#[tactic(auto, unfolding(crate::specs::Inner::read_of, crate::specs::Inner::read_run))]
 pub fn read(state: State, chunk: &[u8], numbers: &mut [i64]) -> Reached
     ensures answer { result ≡ read_of state chunk.now numbers.old }
     ensures run { numbers.new ≡ read_run state chunk.now numbers.old }
@@ -81,6 +80,7 @@ pub fn read(state: State, chunk: &[u8], numbers: &mut [i64]) -> Reached
 
 // The input's end: the token that has begun ends, and so does the question that is open. A run of another length is
 // refused with 1, and nothing is changed.
+#[tactic(auto, unfolding(crate::specs::Inner::end_of, crate::specs::Inner::end_run))]
 pub fn end(state: State, numbers: &mut [i64]) -> Reached
     ensures answer { result ≡ end_of state numbers.old }
     ensures run { numbers.new ≡ end_run state numbers.old }
@@ -122,44 +122,34 @@ fn read_all(state: State, chunk: &[u8], numbers: &mut [i64]) -> Reached
     ensures run { numbers.new ≡ run_in state chunk.now numbers.old }
 {
     let mut state = state;
-    let mut i = 0;
-    while i < chunk.len() {
-        let b = chunk[i];
-        let asked = state.asked;
-        let token = state.token;
-        let next = tokens::step(token, b);
-        if asked.opened & next.word {
+    for (i, b) in chunk.iter().enumerate() {
+        let next = tokens::step(state.token, *b);
+        if state.asked.opened & next.word {
             return reach(state, i, true);
         }
-        store(next.ended, asked.count, token, numbers);
-        state = stepped(state, next, b);
-        i += 1;
+        store(next.ended, state.asked.count, state.token, numbers);
+        state = stepped(state, next, *b);
     }
-    reach(state, i, false)
+    reach(state, chunk.len(), false)
 }
 
 // What a chunk or the input's end comes to; a question that has ended leaves its line, and nothing asked.
+#[tactic(auto, unfolding(crate::specs::Inner::reached_of, crate::specs::Asking::state_next))]
 fn reach(state: State, taken: usize, ended: bool) -> Reached
     ensures { result ≡ reached_of state taken ended }
 {
     let asked = state.asked;
-    if ended {
-        let token = state.token;
-        return Reached {
-            refusal: 0,
-            asked: asked,
-            state: State {
-                asked: nothing(),
-                token: token,
-                line: state.line,
-            },
-            taken,
-            ended,
-        };
-    }
+    let state = if ended {
+        State {
+            asked: nothing(),
+            ..state
+        }
+    } else {
+        state
+    };
     Reached {
         refusal: 0,
-        asked: asked,
+        asked,
         state,
         taken,
         ended,
@@ -167,18 +157,19 @@ fn reach(state: State, taken: usize, ended: bool) -> Reached
 }
 
 // Puts the number of a token that has ended at the next place, if it is one and finds room.
+#[tactic(auto, unfolding(crate::specs::Inner::stored))]
 fn store(ended: bool, count: usize, token: Token, numbers: &mut [i64])
     requires { length numbers.old ≡ most_numbers }
     ensures { numbers.new ≡ pick ended (stored count token numbers.old) numbers.old }
 {
     let number = tokens::number(token);
-    let value = number.value;
     if ended & (fault_in(count, number.fault) == 0) {
-        numbers[count] = value;
+        numbers[count] = number.value;
     }
 }
 
 // A token's fault, or 104 where its question has no room for one number more.
+#[tactic(auto, unfolding(crate::specs::Asking::fault_in))]
 fn fault_in(count: usize, fault: u8) -> u8
     ensures { result ≡ fault_in count fault }
 {
@@ -186,26 +177,20 @@ fn fault_in(count: usize, fault: u8) -> u8
 }
 
 // The state after a byte, by what the byte does to the token.
+#[tactic(auto, unfolding(crate::specs::Asking::stepped, tokens::specs::Tokens::step_of))]
 fn stepped(state: State, next: Next, b: u8) -> State
     requires { next ≡ step_of state.token b }
     ensures { result ≡ stepped state b }
 {
-    let asked = state.asked;
-    let token = state.token;
-    let line = state.line;
-    let after = next.token;
+    let token = next.token;
     if next.ended {
         return State {
-            asked: finished(asked, line, token),
-            token: after,
-            line: line_after(line, b),
+            asked: finished(state.asked, state.line, state.token),
+            token,
+            line: line_after(state.line, b),
         };
     }
-    State {
-        asked: asked,
-        token: after,
-        line: line,
-    }
+    State { token, ..state }
 }
 
 // The question once the token has ended.
@@ -213,17 +198,16 @@ fn finished(asked: Asked, line: u64, token: Token) -> Asked
     ensures { result ≡ finished asked line token }
 {
     match token {
-        Token::Between => asked,
-        Token::Comment => asked,
+        Token::Between | Token::Comment => asked,
         Token::Word(code) => named(asked.count, line, code),
-        Token::Sign => with_token(asked, line, token),
-        Token::Number(_) => with_token(asked, line, token),
-        Token::Below(_) => with_token(asked, line, token),
-        Token::Other => with_token(asked, line, token),
+        Token::Sign | Token::Number(_) | Token::Below(_) | Token::Other => with_token(
+            asked, line, token,
+        ),
     }
 }
 
 // A question begins by a word, or by none.
+#[tactic(auto, unfolding(crate::specs::Asking::named))]
 fn named(count: usize, line: u64, code: u64) -> Asked
     ensures { result ≡ named count line code }
 {
@@ -231,23 +215,23 @@ fn named(count: usize, line: u64, code: u64) -> Asked
         return Asked {
             opened: true,
             word: code,
-            line: line,
-            count: count,
-            fault: 0,
-            place: 0,
+            line,
+            count,
+            ..nothing()
         };
     }
     Asked {
         opened: true,
         word: 0,
-        line: line,
-        count: count,
+        line,
+        count,
         fault: faults::NOT_QUESTION,
         place: line,
     }
 }
 
 // A token that is no word joins its question.
+#[tactic(auto, unfolding(crate::specs::Asking::with_token))]
 fn with_token(asked: Asked, line: u64, token: Token) -> Asked
     ensures { result ≡ with_token asked line token }
 {
@@ -256,18 +240,15 @@ fn with_token(asked: Asked, line: u64, token: Token) -> Asked
     let question = asking(asked, line);
     if fault == 0 {
         return Asked {
-            opened: question.opened,
-            word: question.word,
-            line: question.line,
             count: question.count + 1,
-            fault: question.fault,
-            place: question.place,
+            ..question
         };
     }
     faulted(question, fault, line)
 }
 
 // The question that a number belongs to.
+#[tactic(auto, unfolding(crate::specs::Asking::asking))]
 fn asking(asked: Asked, line: u64) -> Asked
     ensures { result ≡ asking asked line }
 {
@@ -278,34 +259,33 @@ fn asking(asked: Asked, line: u64) -> Asked
 }
 
 // The question with a fault, unless it has one already.
+#[tactic(auto, unfolding(crate::specs::Asking::faulted))]
 fn faulted(asked: Asked, fault: u8, line: u64) -> Asked
     ensures { result ≡ faulted asked fault line }
 {
     if asked.fault == 0 {
         return Asked {
-            opened: asked.opened,
-            word: asked.word,
-            line: asked.line,
-            count: asked.count,
-            fault: fault,
+            fault,
             place: line,
+            ..asked
         };
     }
     asked
 }
 
+#[tactic(auto, unfolding(crate::specs::Asking::line_after))]
 fn line_after(line: u64, b: u8) -> u64
     ensures { result ≡ line_after line b }
 {
     if b == b'\n' {
-        if line < LAST {
-            return line + 1;
-        }
+        line.saturating_add(1)
+    } else {
+        line
     }
-    line
 }
 
 // The last token ends, and its question.
+#[tactic(auto, unfolding(crate::specs::Asking::last_state))]
 fn last(state: State, numbers: &mut [i64]) -> Reached
     requires { length numbers.old ≡ most_numbers }
     ensures answer { result ≡ last_of state }
@@ -319,7 +299,7 @@ fn last(state: State, numbers: &mut [i64]) -> Reached
     let state = State {
         asked: last,
         token: Token::Between,
-        line: line,
+        line,
     };
     reach(state, 0, last.opened)
 }

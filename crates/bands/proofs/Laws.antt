@@ -1,5 +1,5 @@
--- A lookup that is not refused finds the first record whose threshold is at most the rate, and whatever was handed in, the factor is one
--- that a band may have. By the tests that a granted call has passed. Assumes nothing.
+-- A lookup that is not refused finds the first record whose threshold is at most the rate, and whatever was handed in, the factor, 0
+-- where there is none, is one that a band may have. By the tests that a granted call has passed. Assumes nothing.
 use Prim.Native.Nat.{ℕ, zero, suc, ◌-◌, ◌≤◌, ◌<◌}
 use mathlib.Core.Path.{◌≡◌, refl, sym, ◌∙◌}
 use mathlib.Core.Bool.{Bool, true, false}
@@ -16,8 +16,11 @@ use Rattle.whole.proofs.Choice.{clash, and_both, by_test, all_passed}
 use Rattle.whole.proofs.Signed.{inside, opposite, le_z_holds}
 use Rattle.whole.proofs.Sums.{all_inside}
 use Rattle.units.specs.Limits.{most_score, least_factor, most_factor, is_factor, most_bands}
-use Rattle.units.specs.Refusals.{bad_reading, bad_bands}
-use Rattle.bands.specs.Bands.{fall, last_threshold, bands_fit, bands_refusal, first_place, factor_refusal, with_factor, factor_answer}
+use Rattle.std.specs.Prelude.{Ok}
+use Rattle.std.specs.Result.{result_unwrap_or}
+use Rattle.units.specs.Refusals.{bad_reading, bad_bands, refused_as}
+use Rattle.units.proofs.Numbered.{answered_ok}
+use Rattle.bands.specs.Bands.{fall, last_threshold, bands_fit, bands_refusal, first_place, factor_refusal, factor_answer}
 use Rattle.bands.specs.Accepted.{BandsFit, First}
 use Rattle.bands.proofs.Steps.{place_first, place_later}
 
@@ -114,20 +117,20 @@ first_only {thresholds} {factors} {rate} {place} f =
 -- ---- the factor
 
 pub factor_granted : (thresholds factors : List ℤ) (rate : ℕ) → factor_refusal thresholds factors rate ≡ 0
-    → factor_answer thresholds factors rate ≡ record { refusal = 0; factor = get_or factors (first_place thresholds (pos rate)) (pos 0) }
-unfolding factor_answer with_factor
-factor_granted thresholds factors rate e = rw e
+    → factor_answer thresholds factors rate ≡ Ok (get_or factors (first_place thresholds (pos rate)) (pos 0))
+unfolding factor_answer
+factor_granted thresholds factors rate e = answered_ok _ e
 
-pub factor_inside : (thresholds factors : List ℤ) (rate : ℕ) → is_factor (factor_answer thresholds factors rate).factor ≡ true
-unfolding factor_answer with_factor in_range
+pub factor_inside : (thresholds factors : List ℤ) (rate : ℕ) → is_factor (result_unwrap_or (factor_answer thresholds factors rate) (pos 0)) ≡ true
+unfolding factor_answer in_range
 factor_inside thresholds factors rate = by (eqb (factor_refusal thresholds factors rate) 0) (eqb-true _ 0)
   where
     by : (b : Bool) → (b ≡ true → factor_refusal thresholds factors rate ≡ 0)
-        → is_factor (pick b (get_or factors (first_place thresholds (pos rate)) (pos 0)) (pos 0)) ≡ true
+        → is_factor (result_unwrap_or (pick b (Ok (get_or factors (first_place thresholds (pos rate)) (pos 0))) (refused_as (factor_refusal thresholds factors rate))) (pos 0)) ≡ true
     by true e =
         let f = lookup_fits thresholds factors rate (e refl) in
         all_inside least_factor most_factor factors f.bands.tenths (first_place thresholds (pos rate)) (first_is f).paired
     by false e = refl
 
-pub factor_within : (thresholds factors : List ℤ) (rate : ℕ) → Within (nat_abs least_factor) (factor_answer thresholds factors rate).factor
+pub factor_within : (thresholds factors : List ℤ) (rate : ℕ) → Within (nat_abs least_factor) (result_unwrap_or (factor_answer thresholds factors rate) (pos 0))
 factor_within thresholds factors rate = let b = inside (factor_inside thresholds factors rate) in omega (arith, opposite (pos (nat_abs least_factor)))

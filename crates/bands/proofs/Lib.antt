@@ -2,5 +2,5 @@
 mod Steps
 pub mod Laws
 mod Determined
-pub mod RefusedKeeps
+mod RefusedKeeps
 pub mod Accepted

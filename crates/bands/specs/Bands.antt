@@ -1,12 +1,12 @@
 -- Document 01, "Quality bands": a list of records as two lists, its thresholds and its factors in tenths.
-use Rattle.std.specs.Prelude.{ℕ, suc, ◌+◌, ◌-◌, Bool, ◌&&◌, List, [], ◌∷◌, eqb, leb, ℤ, pos, length, get_or}
+use Rattle.std.specs.Prelude.{ℕ, suc, ◌+◌, ◌-◌, Bool, ◌&&◌, List, [], ◌∷◌, Result, eqb, leb, ℤ, pos, length, get_or}
 use Rattle.std.specs.Int.Signed.{le_z, lt_z}
-use Rattle.whole.specs.Choice.{pick, in_order, kept}
+use Rattle.whole.specs.Choice.{pick, in_order}
 use Rattle.whole.specs.Folds.{all_to}
 use Rattle.whole.specs.Whole.{in_range, all_in_range}
 use Rattle.units.specs.Limits.{most_score, least_factor, most_factor, most_bands}
-use Rattle.units.specs.Refusals.{bad_reading, bad_bands}
-use Rattle.bands.specs.declared.Factored.{Factored}
+use Rattle.units.specs.Refusals.{bad_reading, bad_bands, result_by}
+use Rattle.units.specs.declared.refusal.Refusal.{Refusal}
 
 -- "Thresholds fall strictly": each is above the next
 unfoldable pub fall : List ℤ → Bool
@@ -39,12 +39,5 @@ first_place (t ∷ ts) rate = pick (le_z t rate) 0 (suc (first_place ts rate))
 unfoldable pub factor_refusal : List ℤ → List ℤ → ℕ → ℕ
 factor_refusal thresholds factors rate = in_order ((bands_fit thresholds factors, bad_bands) ∷ (leb rate most_score, bad_reading) ∷ [])
 
-abbrev pub no_factor : ℕ → Factored
-no_factor k = record { refusal = k; factor = pos 0 }
-
--- a factor, or 0 beside the number of a refusal
-unfoldable pub with_factor : ℕ → ℤ → Factored
-with_factor k factor = record { refusal = k; factor = kept k factor (pos 0) }
-
-unfoldable pub factor_answer : List ℤ → List ℤ → ℕ → Factored
-factor_answer thresholds factors rate = with_factor (factor_refusal thresholds factors rate) (get_or factors (first_place thresholds (pos rate)) (pos 0))
+unfoldable pub factor_answer : List ℤ → List ℤ → ℕ → Result ℤ Refusal
+factor_answer thresholds factors rate = result_by (factor_refusal thresholds factors rate) (get_or factors (first_place thresholds (pos rate)) (pos 0))

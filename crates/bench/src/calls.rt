@@ -3,12 +3,12 @@ use crate::draw::Drawn;
 use crate::{chance, draw};
 use head::Head;
 use month::Month;
-use units::{Dollars, limits};
+use units::{Dollars, Refusal, limits};
 
 pub(crate) fn in_place(days: u8, closed: bool, ordered: bool, calls: u64) -> u64 {
     let head = Head {
-        days: days,
-        closed: closed,
+        days,
+        closed,
         basic: Dollars(0),
         excess: Dollars(0),
     };
@@ -23,9 +23,12 @@ pub(crate) fn by_value(days: u8, closed: bool, calls: u64) -> u64 {
     let mut sum = 0;
     for _ in 0..calls {
         x = chance::next(x);
-        let b = called(m, draw::by_chance(x));
-        m = b.month;
-        sum = chance::mixed(sum, b.refusal as u64);
+        let (k, next) = match called(m, draw::by_chance(x)) {
+            Ok(next) => (0, next),
+            Err(refusal) => (refusal.number(), m),
+        };
+        m = next;
+        sum = chance::mixed(sum, u64::from(k));
     }
     draw::with_amounts(sum, &m.amounts)
 }
@@ -35,48 +38,58 @@ fn calls_in(head: Head, marks: &mut [bool], amounts: &mut [i64], ordered: bool, 
     let mut sum = 0;
     for i in 0..calls {
         x = chance::next(x);
-        let k = call_in(head, marks, amounts, chosen(ordered, x, i));
-        sum = chance::mixed(sum, k as u64);
+        let k = match call_in(head, marks, amounts, chosen(ordered, x, i)) {
+            Ok(()) => 0,
+            Err(refusal) => refusal.number(),
+        };
+        sum = chance::mixed(sum, u64::from(k));
     }
     draw::with_amounts(sum, amounts)
 }
 
-fn call_in(head: Head, marks: &mut [bool], amounts: &mut [i64], call: Drawn) -> u8 {
+fn call_in(
+    head: Head,
+    marks: &mut [bool],
+    amounts: &mut [i64],
+    call: Drawn,
+) -> Result<(), Refusal> {
     let amount = Dollars(call.amount);
     let place = head::place_of(call.day, call.hour);
-    if call.kind < 3 {
-        return board::post_in(head, marks, amounts, place, amount);
+    match call.kind {
+        0..=2 => board::post_in(head, marks, amounts, place, amount),
+        3 | 4 => board::replace_in(head, marks, amounts, place, amount),
+        _ => board::withdraw_in(head, marks, amounts, place),
     }
-    if call.kind < 5 {
-        return board::replace_in(head, marks, amounts, place, amount);
-    }
-    board::withdraw_in(head, marks, amounts, place)
 }
 
 fn chosen(ordered: bool, x: u64, i: u64) -> Drawn {
     if ordered {
-        return draw::in_order(i);
+        draw::in_order(i)
+    } else {
+        draw::by_chance(x)
     }
-    draw::by_chance(x)
 }
 
 fn opened(days: u8, closed: bool) -> Month {
-    let b = Month::open(days);
-    let m = b.month;
+    let m = Month::open(days).unwrap_or(Month {
+        days: 0,
+        closed: false,
+        basic: Dollars(0),
+        excess: Dollars(0),
+        marks: [false; limits::PLACES],
+        amounts: [0; limits::PLACES],
+    });
     if closed {
-        let shut = m.close();
-        return shut.month;
+        return m.close().unwrap_or(m);
     }
     m
 }
 
-fn called(m: Month, call: Drawn) -> month::Booked {
+fn called(m: Month, call: Drawn) -> Result<Month, Refusal> {
     let amount = Dollars(call.amount);
-    if call.kind < 3 {
-        return m.post(call.day, call.hour, amount);
+    match call.kind {
+        0..=2 => m.post(call.day, call.hour, amount),
+        3 | 4 => m.replace(call.day, call.hour, amount),
+        _ => m.withdraw(call.day, call.hour),
     }
-    if call.kind < 5 {
-        return m.replace(call.day, call.hour, amount);
-    }
-    m.withdraw(call.day, call.hour)
 }

@@ -33,9 +33,7 @@ pub(crate) fn in_order(i: u64) -> Drawn {
 
 // The sum with every place's amount.
 pub(crate) fn with_amounts(sum: u64, amounts: &[i64]) -> u64 {
-    let mut s = sum;
-    for amount in amounts {
-        s = chance::with_number(s, *amount);
-    }
-    s
+    amounts
+        .iter()
+        .fold(sum, |s, amount| chance::with_number(s, *amount))
 }

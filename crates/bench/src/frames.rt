@@ -12,7 +12,10 @@ pub(crate) fn write(calls: u64) -> u64 {
     let mut sum = 0;
     for i in 0..calls {
         x = chance::next(x);
-        let refusal = frame::write_frame(lines::entry(x), &mut line);
+        let refusal = match frame::write_frame(lines::entry(x), &mut line) {
+            Ok(()) => 0,
+            Err(refusal) => refusal.number(),
+        };
         sum = lines::with_line(sum, refusal, &line, i);
     }
     sum

@@ -26,7 +26,7 @@ fn run(shifting: bool, capacity: u64, reference: u64, targets: [i64; 5], count: 
     let mut frequencies = [0; limits::SECONDS];
     let mut transfers = [0; limits::SECONDS];
     let mut scores = [0u8; limits::SECONDS];
-    ramp::plan(&targets, &mut transfers);
+    let _ = ramp::plan(&targets, &mut transfers);
     readings::fill_powers(&mut powers, capacity, &transfers);
     readings::fill(&mut frequencies, Rule::Wandering, 1);
     hours(
@@ -109,14 +109,10 @@ fn with_hour(
 
 // The last three scores, and zeros where there are fewer.
 pub(crate) fn last_three(scores: &[u8]) -> [u8; 3] {
-    let n = scores.len();
-    if n < 3 {
-        return [0; 3];
+    match scores {
+        [.., oldest, middle, newest] => [*oldest, *middle, *newest],
+        _ => [0; 3],
     }
-    let oldest = scores[n - 3];
-    let middle = scores[n - 2];
-    let newest = scores[n - 1];
-    [oldest, middle, newest]
 }
 
 fn settled(
@@ -167,6 +163,6 @@ fn shift_of(targets: [i64; 5]) -> Shift {
     Shift {
         discharge: 50_000,
         charge: 30_000,
-        targets: targets,
+        targets,
     }
 }

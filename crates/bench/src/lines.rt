@@ -1,7 +1,7 @@
 // Entries and lines by chance, some of them damaged, and their check sum.
 use crate::chance;
-use frame::{Entry, Reading, kinds};
-use units::Dollars;
+use frame::{Entry, kinds};
+use units::{Dollars, Refusal};
 
 // A post, a replace, a withdraw or, one time in sixteen, a kind that is none: in form but for those.
 pub(crate) fn entry(x: u64) -> Entry {
@@ -18,15 +18,15 @@ pub(crate) fn entry(x: u64) -> Entry {
 // A line; an entry that the writer refuses leaves 24 zeros.
 pub(crate) fn line(x: u64) -> [u8; 24] {
     let mut run = [b'0'; 24];
-    frame::write_frame(entry(x), &mut run);
+    let _ = frame::write_frame(entry(x), &mut run);
     damaged(run, x)
 }
 
 // The sum with what a line reads as.
-pub(crate) fn with_reading(sum: u64, got: Reading) -> u64 {
+pub(crate) fn with_reading(sum: u64, got: Result<Entry, Refusal>) -> u64 {
     match got {
-        Reading::Frame(entry) => with_entry(sum, entry),
-        Reading::Refused(n) => chance::mixed(sum, n as u64),
+        Ok(entry) => with_entry(sum, entry),
+        Err(refusal) => chance::mixed(sum, u64::from(refusal.number())),
     }
 }
 
@@ -34,8 +34,8 @@ pub(crate) fn with_reading(sum: u64, got: Reading) -> u64 {
 pub(crate) fn with_line(sum: u64, refusal: u8, line: &[u8; 24], i: u64) -> u64 {
     let at = (i % 24) as usize;
     chance::mixed(
-        chance::mixed(chance::mixed(sum, refusal as u64), wide(line[at])),
-        wide(line[23]),
+        chance::mixed(chance::mixed(sum, u64::from(refusal)), u64::from(line[at])),
+        u64::from(line[23]),
     )
 }
 
@@ -44,14 +44,11 @@ fn amount(x: u64) -> i64 {
 }
 
 fn kind(k: u64) -> u8 {
-    if k < 8 {
-        kinds::POST
-    } else if k < 12 {
-        kinds::REPLACE
-    } else if k < 15 {
-        kinds::WITHDRAW
-    } else {
-        kinds::EXCESS_FEE + 1
+    match k {
+        0..=7 => kinds::POST,
+        8..=11 => kinds::REPLACE,
+        12..=14 => kinds::WITHDRAW,
+        _ => kinds::EXCESS_FEE + 1,
     }
 }
 
@@ -76,12 +73,7 @@ fn damaged(line: [u8; 24], x: u64) -> [u8; 24] {
 }
 
 fn with_entry(sum: u64, entry: Entry) -> u64 {
-    let amount = entry.amount;
-    let a = amount.0;
-    let place = entry.kind as u64 * 65_536 + entry.day as u64 * 256 + entry.hour as u64;
-    chance::with_number(chance::mixed(sum, place), a)
-}
-
-fn wide(b: u8) -> u64 {
-    b as u64
+    let (day, hour) = (u64::from(entry.day), u64::from(entry.hour));
+    let place = u64::from(entry.kind) * 65_536 + day * 256 + hour;
+    chance::with_number(chance::mixed(sum, place), entry.amount.0)
 }

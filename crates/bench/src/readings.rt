@@ -29,18 +29,18 @@ pub(crate) fn drawn(second: usize, x: u64, capacity: u64, transfers: &[i64]) -> 
 
 pub(crate) fn fill_powers(powers: &mut [i64], capacity: u64, transfers: &[i64]) {
     let mut x = 1;
-    for i in 0..powers.len() {
+    for (i, power) in powers.iter_mut().enumerate() {
         x = chance::next(x);
-        powers[i] = drawn(i, x, capacity, transfers);
+        *power = drawn(i, x, capacity, transfers);
     }
 }
 
 // A run's values, drawn by the numbers after the first.
 pub(crate) fn fill(run: &mut [i64], rule: Rule, first: u64) {
     let mut x = first;
-    for i in 0..run.len() {
+    for (i, value) in run.iter_mut().enumerate() {
         x = chance::next(x);
-        run[i] = value_at(rule, i, x);
+        *value = value_at(rule, i, x);
     }
 }
 

@@ -3,8 +3,8 @@ use std::io;
 
 // The number that stands after that many spaces.
 pub(crate) fn count(input: &[u8], after: usize) -> u64 {
-    let mut n: u64 = 0;
-    let mut spaces: usize = 0;
+    let mut n = 0;
+    let mut spaces = 0;
     for b in input {
         spaces = with_space(spaces, *b);
         if spaces == after {
@@ -32,11 +32,8 @@ fn with_space(spaces: usize, b: u8) -> usize {
 
 // The number with one digit more, of which the last ten stay; any other byte leaves it as it is.
 fn with_digit(n: u64, b: u8) -> u64 {
-    if b < b'0' {
+    if !b.is_ascii_digit() {
         return n;
     }
-    if b > b'9' {
-        return n;
-    }
-    n % 1_000_000_000 * 10 + (b - b'0') as u64
+    n % 1_000_000_000 * 10 + u64::from(b - b'0')
 }

@@ -7,7 +7,7 @@ use units::{Dollars, Kilowatts};
 
 // The sum with every number of a settlement.
 pub(crate) fn with_settlement(sum: u64, s: Settlement) -> u64 {
-    let mut m = chance::mixed(chance::mixed(sum, s.refusal as u64), s.rate as u64);
+    let mut m = chance::mixed(chance::mixed(sum, u64::from(s.refusal)), u64::from(s.rate));
     m = chance::with_number(m, s.factor);
     m = with_dollars(m, s.capacity);
     m = with_dollars(m, s.performance);
@@ -18,17 +18,14 @@ pub(crate) fn with_settlement(sum: u64, s: Settlement) -> u64 {
 
 // The sum with an sReg hour's settlement and the state that it ends in.
 pub(crate) fn with_settled(sum: u64, s: Settled) -> u64 {
-    let state = s.state;
-    with_state(with_settlement(sum, s.hour), state)
+    with_state(with_settlement(sum, s.hour), s.state)
 }
 
 // The sum with every score.
 pub(crate) fn with_scores(sum: u64, scores: &[u8]) -> u64 {
-    let mut m = sum;
-    for score in scores {
-        m = with_score(m, *score);
-    }
-    m
+    scores
+        .iter()
+        .fold(sum, |m, score| chance::mixed(m, u64::from(*score)))
 }
 
 fn with_dollars(sum: u64, dollars: Dollars) -> u64 {
@@ -46,9 +43,5 @@ fn with_state(sum: u64, state: EventState) -> u64 {
 
 fn with_place(sum: u64, kind: u64, start: Kilowatts, count: u8) -> u64 {
     let m = chance::with_number(chance::mixed(sum, kind), start.0);
-    chance::mixed(m, count as u64)
-}
-
-fn with_score(sum: u64, score: u8) -> u64 {
-    chance::mixed(sum, score as u64)
+    chance::mixed(m, u64::from(count))
 }

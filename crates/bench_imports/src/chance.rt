@@ -12,5 +12,5 @@ pub(crate) fn mixed(sum: u64, number: u64) -> u64 {
 
 // The sum with one signed number more.
 pub(crate) fn with_number(sum: u64, number: i64) -> u64 {
-    mixed(mixed(sum, (number < 0) as u64), whole::size(number))
+    mixed(mixed(sum, u64::from(number < 0)), number.unsigned_abs())
 }

@@ -10,7 +10,7 @@
 
 mod chance;
 
-use logger::Imported;
+use logger::AtLine;
 use std::io;
 use std::io::Read;
 use units::limits;
@@ -68,7 +68,7 @@ fn draw_line(file: &mut [u8], second: u64, x: u64) {
 fn line(second: u64, x: u64) -> [u8; 25] {
     let mut line = [b'\n'; 25];
     let place = (second % LINES) as u16;
-    pair_frame::write_pair(place, frequency(x), power(x), &mut line[..24]);
+    let _ = pair_frame::write_pair(place, frequency(x), power(x), &mut line[..24]);
     line
 }
 
@@ -85,18 +85,15 @@ fn power(x: u64) -> u32 {
     ((sign * 256 + exponent) * 0x80_0000 + fraction) as u32
 }
 
-fn with_answer(sum: u64, answer: Imported) -> u64 {
-    chance::mixed(
-        chance::mixed(sum, answer.refusal as u64),
-        answer.line as u64,
-    )
+fn with_answer(sum: u64, answer: Result<(), AtLine>) -> u64 {
+    let (refusal, line) = match answer {
+        Ok(()) => (0, 0),
+        Err(fault) => (fault.refusal.number(), fault.line),
+    };
+    chance::mixed(chance::mixed(sum, u64::from(refusal)), line as u64)
 }
 
 // The sum with every number of a run.
 fn with_run(sum: u64, run: &[i64]) -> u64 {
-    let mut m = sum;
-    for z in run {
-        m = chance::with_number(m, *z);
-    }
-    m
+    run.iter().fold(sum, |m, z| chance::with_number(m, *z))
 }

@@ -32,18 +32,17 @@ fn main(rt: HostRuntime) -> io::Result<()> {
 
 // The sum of every answer.
 fn run(kind: u8, threshold: u8, before: u8, count: u64) -> u64 {
-    let earlier = EARLIER;
     let mut scores = [0; limits::SECONDS];
     draw(&mut scores, kind);
-    let n = before as usize % 4;
-    each(&earlier[..n], &mut scores, kind, threshold, count)
+    let n = usize::from(before % 4);
+    each(&EARLIER[..n], &mut scores, kind, threshold, count)
 }
 
 fn draw(scores: &mut [u8], kind: u8) {
     let mut x = 1;
-    for i in 0..scores.len() {
+    for (i, score) in scores.iter_mut().enumerate() {
         x = chance::next(x);
-        scores[i] = drawn(kind, i, x);
+        *score = drawn(kind, i, x);
     }
 }
 
@@ -60,9 +59,8 @@ fn each(earlier: &[u8], scores: &mut [u8], kind: u8, threshold: u8, count: u64) 
 }
 
 fn redraw(scores: &mut [u8], kind: u8, place: usize, x: u64) {
-    if place < scores.len() {
-        let score = drawn(kind, place, x);
-        scores[place] = score;
+    if let Some(score) = scores.get_mut(place) {
+        *score = drawn(kind, place, x);
     }
 }
 
@@ -83,8 +81,8 @@ fn drawn(kind: u8, place: usize, x: u64) -> u8 {
 }
 
 fn with_answer(sum: u64, answer: Verdict) -> u64 {
-    let refused = chance::mixed(sum, answer.refusal as u64);
-    let reached = chance::mixed(refused, answer.reached as u64);
+    let refused = chance::mixed(sum, u64::from(answer.refusal));
+    let reached = chance::mixed(refused, u64::from(answer.reached));
     let named = chance::mixed(reached, answer.second as u64);
     chance::mixed(
         chance::mixed(named, answer.judged as u64),

@@ -1,6 +1,6 @@
 -- What belongs to no one function.
 pub mod Core
-pub mod Cleared
+pub mod Each
 pub mod Sums
 mod Determined
 mod RefusedKeeps

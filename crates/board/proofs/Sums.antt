@@ -12,6 +12,7 @@ use borrow.Author.Tests.{ltb-true, ltb-false, eqb-true, le-leb}
 use Rattle.whole.specs.Choice.{pick}
 use Rattle.whole.specs.Folds.{sum_to}
 use Rattle.whole.specs.Whole.{minus, Within}
+use Rattle.std.specs.Prelude.{unwrap_or}
 use Rattle.whole.specs.Inner.{summable, summed}
 use Rattle.units.specs.Limits.{most_amount, is_amount, most_loss_fee, is_loss_fee, hours_of_day, month_places}
 use Rattle.whole.proofs.Choice.{and_both, both, passed}
@@ -46,16 +47,16 @@ module _ (days : ℕ) (b : Board Fee Bool ℤ) (g : Good (month_rules days) b) w
       both (le-leb (length xs) 1000000 (omega arith))
       (inside_all (minus 1000000000000) (pos 1000000000000) xs (λ i k. within_in {k = 1000000000000} {z = get_or xs i (pos 0)} (let w = h i k in omega arith)))
 
-  pub day_summed : (p : ℕ) → p + hours_of_day ≤ month_places → (summed (take hours_of_day (drop p b.amounts))).sum ≡ sum_to hours_of_day (λ x. get_or b.amounts (p + x) (pos 0))
+  pub day_summed : (p : ℕ) → p + hours_of_day ≤ month_places → unwrap_or (summed (take hours_of_day (drop p b.amounts))) (pos 0) ≡ sum_to hours_of_day (λ x. get_or b.amounts (p + x) (pos 0))
   day_summed p l =
       let xs = b.amounts in
       let n : length (take hours_of_day (drop p xs)) ≡ hours_of_day = simp (length-take, length-drop) (omega (arith, g.amounts_long)) in
-      ap (λ s. s.sum) (summed_is (take hours_of_day (drop p xs)) (can_sum (take hours_of_day (drop p xs)) (omega arith) (λ i k. rw (get_or-take hours_of_day (drop p xs) i (pos 0) (omega arith), get_or-drop p xs i (pos 0)) (amount_within (p + i)))))
+      ap (λ s. unwrap_or s (pos 0)) (summed_is (take hours_of_day (drop p xs)) (can_sum (take hours_of_day (drop p xs)) (omega arith) (λ i k. rw (get_or-take hours_of_day (drop p xs) i (pos 0) (omega arith), get_or-drop p xs i (pos 0)) (amount_within (p + i)))))
       ∙ sum_part xs p hours_of_day (omega (arith, g.amounts_long))
 
-  pub all_summed : (summed b.amounts).sum ≡ sum_to month_places (λ p. get_or b.amounts p (pos 0))
+  pub all_summed : unwrap_or (summed b.amounts) (pos 0) ≡ sum_to month_places (λ p. get_or b.amounts p (pos 0))
   all_summed =
-      ap (λ s. s.sum) (summed_is b.amounts (can_sum b.amounts (omega (arith, g.amounts_long)) (λ i k. amount_within i)))
+      ap (λ s. unwrap_or s (pos 0)) (summed_is b.amounts (can_sum b.amounts (omega (arith, g.amounts_long)) (λ i k. amount_within i)))
       ∙ ap (λ n. sum_to n (λ p. get_or b.amounts p (pos 0))) g.amounts_long
 
   pub day_within : (p : ℕ) → Within (most_amount * hours_of_day) (sum_to hours_of_day (λ x. get_or b.amounts (p + x) (pos 0)))
@@ -78,7 +79,7 @@ module _ (days : ℕ) (b : Board Fee Bool ℤ) (g : Good (month_rules days) b) w
       omega (arith, difference (sum_to month_places (λ p. get_or b.amounts p (pos 0)) -ℤ b.fee basic) (b.fee excess))
 
   -- the month total is what the code works out
-  pub total_sum : (summed b.amounts).sum -ℤ b.fee basic -ℤ b.fee excess ≡ total_on (month_rules days) b
+  pub total_sum : unwrap_or (summed b.amounts) (pos 0) -ℤ b.fee basic -ℤ b.fee excess ≡ total_on (month_rules days) b
   unfolding total_on
   total_sum = ap (λ (z : ℤ). z -ℤ b.fee basic -ℤ b.fee excess) all_summed
 

@@ -14,7 +14,7 @@ use Rattle.history.specs.History.{stands}
 use Rattle.frame.specs.Kinds.{open_kind, post_kind, replace_kind, withdraw_kind, basic_fee_kind, close_kind, excess_fee_kind, is_kind, uses_day, uses_hour, uses_amount}
 use Rattle.frame.specs.Frame.{is_zero, in_form, reading_of}
 use Rattle.frame.specs.declared.Entry.{Entry}
-use Rattle.frame.specs.declared.Reading.TheVariants.{Frame}
+use Rattle.std.specs.Prelude.{Ok}
 use Rattle.frame.proofs.RoundTrip.{passed}
 use Rattle.book.specs.Book.{call_of}
 
@@ -38,7 +38,7 @@ kind_named e f =
 less : (k n : ℕ) → eqb k (suc n) ≡ false → k ≤ suc n → k ≤ n
 less k n t l = let f = eqb-false k (suc n) t in omega arith
 
-pub asked_for : (line : List ℕ) (e : Entry) → reading_of line ≡ Frame e → (e.kind ≡ open_kind → ⊥) → call_of e ≡ none → ⊥
+pub asked_for : (line : List ℕ) (e : Entry) → reading_of line ≡ Ok e → (e.kind ≡ open_kind → ⊥) → call_of e ≡ none → ⊥
 unfolding call_of
 asked_for line e r o n =
     let kind = kind_named e (passed line e r).form in

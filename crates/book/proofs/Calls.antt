@@ -7,19 +7,21 @@ use mathlib.Core.Option.{Option, none, some}
 use lib.Dec.{eqb}
 use lib.IntN.{ℤ}
 use borrow.Author.Tests.{eq-eqb, ne_eqb, eqb-true, eqb-false}
+use Rattle.std.specs.Prelude.{Result, Ok, Err}
 use Rattle.whole.specs.Choice.{pick}
 use Rattle.whole.proofs.Choice.{clash, by_test, kept_new, kept_old}
-use Rattle.units.specs.Refusals.{wrong_length, not_open}
+use Rattle.units.specs.Refusals.{wrong_length, not_open, told_number, result_by}
+use Rattle.units.specs.declared.refusal.Refusal.{Refusal}
+use Rattle.units.proofs.Numbered.{answered_ok, answered_refused}
 use Rattle.history.specs.Rules.{Call, post, replace, withdraw, loss_fee, close}
 use Rattle.history.specs.Board.{Board, fresh}
 use Rattle.history.specs.Inner.{runs_fit, open_ruling, open_left, ruled_in, handed_in}
 use Rattle.head.specs.Rules.{Fee, basic, excess, Item, amount_item, month_rules}
 use Rattle.head.specs.Inner.{board_in, fresh_head}
 use Rattle.head.specs.declared.Head.{Head}
-use Rattle.head.specs.declared.Headed.{Headed}
 use Rattle.head.proofs.Heads.{Heads, fees_all, fresh_in, heads_fee, heads_close}
 use Rattle.board.specs.Board.{opened_in}
-use Rattle.board.proofs.Core.{open_number_lem, open_head}
+use Rattle.board.proofs.Core.{ruled_number, opened_is, open_number_lem}
 use Rattle.frame.specs.Kinds.{open_kind, post_kind, replace_kind, withdraw_kind, basic_fee_kind, close_kind, excess_fee_kind, uses_hour}
 use Rattle.frame.specs.declared.Entry.{Entry}
 use Rattle.book.specs.Book.{Book, call_of, open_refusal, open_book, call_refusal, call_book, asked_refusal, asked_book, frame_refusal, frame_book}
@@ -91,6 +93,11 @@ module _ (cover : Cover) (ms : List Bool) (xs : List ℤ) where
       (rw o number, λ i. record { count = cover.count; opened = cover.opened; days = cover.head.days; board = board i })
   called_place (some c) ns ys k o number board = called c cover.head ns ys k o number board refl
 
+  -- what is answered there is told by its number
+  pub place_told : (c : Option (Call Fee Item)) → let k = place_number cover.head.days (board_in cover.head ms xs) c in told_number (result_by {A = Unit {0}} k tt) ≡ k
+  place_told none = refl
+  place_told (some c) = ruled_number cover.head.days (board_in cover.head ms xs) c
+
   -- ---- one that touches no place
 
   abbrev runs_are : Bool
@@ -133,48 +140,35 @@ module _ (cover : Cover) (ms : List Bool) (xs : List ℤ) where
     abbrev ruling : ℕ
     ruling = open_ruling (month_rules days) (board_in (fresh_head days) ms xs)
 
-    opened_yes : (headed : Headed) (ns : List Bool) (ys : List ℤ) → cover.opened ≡ false → headed.refusal ≡ 0 → ruling ≡ 0 → headed.head ≡ fresh_head days
-        → ns ≡ (fresh (month_rules days)).marks → ys ≡ (fresh (month_rules days)).amounts → Opened (open_taken cover headed).refusal (book_of (open_taken cover headed).cover ns ys)
-    unfolding open_refusal open_book open_ruling fresh
-    opened_yes headed ns ys o h z head m x =
-        rw (eq-eqb headed.refusal 0 h, o, eq-eqb ruling 0 z)
-        (h ∙ sym z, λ i. record { count = cover.count; opened = true; days = (head i).days; board = (opens ∙ fresh_in days) i })
-      where
-        opens : board_in headed.head ns ys ≡ board_in (fresh_head days) (fresh (month_rules days)).marks (fresh (month_rules days)).amounts
-        opens i = board_in (head i) (m i) (x i)
-
-    opened_no : (headed : Headed) (ns : List Bool) (ys : List ℤ) → cover.opened ≡ false → headed.refusal ≡ ruling → (ruling ≡ 0 → ⊥) → ns ≡ ms → ys ≡ xs
-        → Opened (open_taken cover headed).refusal (book_of (open_taken cover headed).cover ns ys)
-    unfolding open_refusal open_book open_ruling
-    opened_no headed ns ys o h f m x =
-        rw (ne_eqb headed.refusal 0 (λ z. f (sym h ∙ z)), o, ne_eqb ruling 0 f) (h, λ i. record { count = cover.count; opened = false; days = cover.head.days; board = board_in cover.head (m i) (x i) })
-
     -- by the head that was answered, and the runs that were left
-    pub opened_by : (headed : Headed) (taken : Taken) (ns : List Bool) (ys : List ℤ) → cover.opened ≡ false → taken ≡ open_taken cover headed → headed ≡ opened_in days ms xs
+    pub opened_by : (headed : Result Head Refusal) (taken : Taken) (ns : List Bool) (ys : List ℤ) → cover.opened ≡ false → taken ≡ open_taken cover headed → headed ≡ opened_in days ms xs
         → ns ≡ (open_left (month_rules days) (board_in (fresh_head days) ms xs)).marks → ys ≡ (open_left (month_rules days) (board_in (fresh_head days) ms xs)).amounts
         → Opened taken.refusal (book_of taken.cover ns ys)
-    unfolding open_left
+    unfolding open_left open_refusal open_book open_ruling fresh
     opened_by headed taken ns ys o e h m x =
-        subst (λ (t : Taken). Opened t.refusal (book_of t.cover ns ys)) (sym e)
-        (by_test (eqb k 0)
-        (λ (t : eqb k 0 ≡ true).
-        let z = eqb-true k 0 t in
-        let head = ap (λ (h : Headed). h.head) h ∙ open_head days ms xs (open_number_lem days ms xs ∙ z) in
+        subst (λ (t : Taken). Opened t.refusal (book_of t.cover ns ys)) (sym (e ∙ ap (open_taken cover) h))
+        (by_test (eqb ruling 0)
+        (λ (t : eqb ruling 0 ≡ true).
+        let z = eqb-true ruling 0 t in
         let new = kept_new (fresh (month_rules days)) start z in
-        opened_yes headed ns ys o (number ∙ z) z head (m ∙ ap (λ (b : Board Fee Bool ℤ). b.marks) new) (x ∙ ap (λ (b : Board Fee Bool ℤ). b.amounts) new))
-        (λ (t : eqb k 0 ≡ false).
-        let f : k ≡ 0 → ⊥ = eqb-false k 0 t in
+        let granted = opened_is days ms xs ∙ answered_ok (fresh_head days) z in
+        let opens : board_in (fresh_head days) ns ys ≡ board_in (fresh_head days) (fresh (month_rules days)).marks (fresh (month_rules days)).amounts =
+        (λ i. board_in (fresh_head days) ((m ∙ ap (λ (b : Board Fee Bool ℤ). b.marks) new) i) ((x ∙ ap (λ (b : Board Fee Bool ℤ). b.amounts) new) i)) in
+        subst (λ (y : Result Head Refusal). Opened (open_taken cover y).refusal (book_of (open_taken cover y).cover ns ys)) (sym granted)
+        (rw (o, t) (sym z, λ i. record { count = cover.count; opened = true; days = days; board = (opens ∙ fresh_in days) i })))
+        (λ (t : eqb ruling 0 ≡ false).
+        let f : ruling ≡ 0 → ⊥ = eqb-false ruling 0 t in
         let old = kept_old (fresh (month_rules days)) start f in
-        opened_no headed ns ys o number f (m ∙ ap (λ (b : Board Fee Bool ℤ). b.marks) old) (x ∙ ap (λ (b : Board Fee Bool ℤ). b.amounts) old)))
+        let away = opened_is days ms xs ∙ answered_refused (fresh_head days) f in
+        let number = ap told_number (sym away) ∙ open_number_lem days ms xs in
+        subst (λ (y : Result Head Refusal). Opened (open_taken cover y).refusal (book_of (open_taken cover y).cover ns ys)) (sym away)
+        (rw (o, t) (
+          number,
+          λ i. record { count = cover.count; opened = false; days = cover.head.days; board = board_in cover.head ((m ∙ ap (λ (b : Board Fee Bool ℤ). b.marks) old) i) ((x ∙ ap (λ (b : Board Fee Bool ℤ). b.amounts) old) i) },
+        ))))
       where
         start : Board Fee Bool ℤ
         start = board_in (fresh_head days) ms xs
-
-        k : ℕ
-        k = open_ruling (month_rules days) start
-
-        number : headed.refusal ≡ k
-        number = ap (λ (h : Headed). h.refusal) h ∙ open_number_lem days ms xs
 
 -- ---- a frame
 

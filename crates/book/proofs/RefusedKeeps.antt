@@ -11,8 +11,9 @@ use Rattle.head.specs.Rules.{Fee, Item, month_rules}
 use Rattle.board.specs.Calls.{lent_marks, lent_amounts, lent_runs}
 use Rattle.frame.specs.Kinds.{open_kind}
 use Rattle.frame.specs.Frame.{reading_of}
-use Rattle.frame.specs.declared.Reading.{Reading}
-use Rattle.frame.specs.declared.Reading.TheVariants.{Frame, Refused}
+use Rattle.frame.specs.declared.Entry.{Entry}
+use Rattle.std.specs.Prelude.{Result, Ok, Err}
+use Rattle.units.specs.declared.refusal.Refusal.{Refusal}
 use Rattle.book.specs.Book.{Book, call_of, open_book, call_refusal, call_book, asked_refusal, asked_book, frame_refusal, frame_book, reading_refusal, book_in}
 use Rattle.book.specs.Inner.{book_of, cover_of}
 use Rattle.book.proofs.take.Reads as take_reads
@@ -28,13 +29,13 @@ asked_same book (some c) f =
     rw o (λ i. record { count = book.count; opened = true; days = book.days; board = same i }))
     (λ (o : book.opened ≡ false). rw o)
 
-reading_same : (book : Book) (r : Reading) → (reading_refusal book r ≡ 0 → ⊥) → book_in book r ≡ book
+reading_same : (book : Book) (r : Result Entry Refusal) → (reading_refusal book r ≡ 0 → ⊥) → book_in book r ≡ book
 unfolding frame_refusal frame_book open_book
-reading_same book (Frame e) f =
+reading_same book (Ok e) f =
     by_test (eqb e.kind open_kind)
     (λ (t : eqb e.kind open_kind ≡ true). rw t (kept_old _ book (λ z. f (rw t z))))
     (λ (t : eqb e.kind open_kind ≡ false). rw t (asked_same book (call_of e) (λ z. f (rw t z))))
-reading_same book (Refused n) f = refl
+reading_same book (Err r) f = refl
 
 -- the line stands between the cover and the runs
 take_refused_keeps : RefusedKeeps 3 take_kinds.ps take_kinds.r (λ κs x. x.refusal) (λ κs a k. record { refusal = k; cover = a.0 })

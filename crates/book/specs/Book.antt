@@ -1,17 +1,16 @@
 -- Document 01, "Frames" and "Numbers that are turned away", and document 02, #101: what the program answers to a line, and what it keeps from line to line. Its ledger may stand on any two runs:
 -- 1 is answered where they are not the ledger's.
-use Rattle.std.specs.Prelude.{ℕ, Bool, true, not, ◌∷◌, eqb, ℤ}
+use Rattle.std.specs.Prelude.{ℕ, Bool, true, not, ◌∷◌, Result, Ok, Err, eqb, ℤ}
 use Rattle.std.proofs.Math.Option.{Option, none, some}
 use Rattle.whole.specs.Choice.{pick, unless, in_order, kept}
-use Rattle.units.specs.Refusals.{bad_kind, not_open}
+use Rattle.units.specs.Refusals.{bad_kind, not_open, paper_number}
+use Rattle.units.specs.declared.refusal.Refusal.{Refusal}
 use Rattle.history.specs.Rules.{Call, post, replace, withdraw, loss_fee, close}
 use Rattle.history.specs.Board.{Board, fresh}
 use Rattle.history.specs.Inner.{open_tests, ruled_in, handed_in}
 use Rattle.head.specs.Rules.{Fee, basic, excess, Item, amount_item, month_rules}
 use Rattle.frame.specs.Kinds.{open_kind, post_kind, replace_kind, withdraw_kind, basic_fee_kind, close_kind, excess_fee_kind}
 use Rattle.frame.specs.declared.Entry.{Entry}
-use Rattle.frame.specs.declared.Reading.{Reading}
-use Rattle.frame.specs.declared.Reading.TheVariants.{Frame, Refused}
 
 -- how many lines were answered, whether a month was opened, its days, and its ledger
 pub record Book : Type 0 where
@@ -67,10 +66,10 @@ frame_book book e = pick (eqb e.kind open_kind) (open_book book e.day) (asked_bo
 -- ---- one line
 
 -- "A line that doesn't read as a frame never reaches the ledger."
-abbrev pub reading_refusal : Book → Reading → ℕ
-reading_refusal book (Frame e) = frame_refusal book e
-reading_refusal book (Refused n) = n
+abbrev pub reading_refusal : Book → Result Entry Refusal → ℕ
+reading_refusal book (Ok e) = frame_refusal book e
+reading_refusal book (Err r) = paper_number r
 
-abbrev pub book_in : Book → Reading → Book
-book_in book (Frame e) = frame_book book e
-book_in book (Refused n) = book
+abbrev pub book_in : Book → Result Entry Refusal → Book
+book_in book (Ok e) = frame_book book e
+book_in book (Err r) = book

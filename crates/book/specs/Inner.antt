@@ -1,19 +1,18 @@
 -- What the code keeps and works with, and no rule of the papers: a cover is a book without its places, which are two lent runs; the steps of one line by their kinds.
-use Rattle.std.specs.Prelude.{ℕ, Bool, true, List, eqb, ℤ}
+use Rattle.std.specs.Prelude.{ℕ, Bool, true, List, eqb, Result, Ok, Err, ℤ}
 use Rattle.std.proofs.Math.Option.{Option, none, some}
-use Rattle.whole.specs.Choice.{pick, kept}
-use Rattle.units.specs.Refusals.{wrong_length, bad_kind}
+use Rattle.whole.specs.Choice.{pick}
+use Rattle.units.specs.Refusals.{wrong_length, bad_kind, paper_number, told_number}
+use Rattle.units.specs.declared.refusal.Refusal.{Refusal}
 use Rattle.units.specs.Units.{dollars}
 use Rattle.history.specs.Rules.{Call, post, replace, withdraw, loss_fee, close}
 use Rattle.history.specs.Board.{Board}
 use Rattle.history.specs.Inner.{ruled_in, handed_in}
 use Rattle.head.specs.Rules.{Fee, basic, excess, Item, amount_item, month_rules}
-use Rattle.head.specs.Inner.{board_in, headed_of}
-use Rattle.head.specs.declared.Headed.{Headed}
+use Rattle.head.specs.Inner.{board_in, headed_of, standing_after}
+use Rattle.head.specs.declared.Head.{Head}
 use Rattle.frame.specs.Kinds.{post_kind, replace_kind, withdraw_kind, basic_fee_kind, close_kind, excess_fee_kind}
 use Rattle.frame.specs.declared.Entry.{Entry}
-use Rattle.frame.specs.declared.Reading.{Reading}
-use Rattle.frame.specs.declared.Reading.TheVariants.{Frame, Refused}
 use Rattle.book.specs.Book.{Book}
 use Rattle.book.specs.declared.Cover.{Cover}
 use Rattle.book.specs.declared.Taken.{Taken}
@@ -32,11 +31,6 @@ cover_of book =
     }
 
 -- ---- the steps of one line
-
--- the number of a line that is no frame
-abbrev pub refusal_number : Reading → ℕ
-refusal_number (Frame e) = 0
-refusal_number (Refused n) = n
 
 -- a call that touches a place; any other kind is no such call
 abbrev pub place_call : Entry → Option (Call Fee Item)
@@ -65,16 +59,17 @@ head_call kind amount =
 abbrev pub turned : ℕ → Cover → Taken
 turned k cover = record { refusal = k; cover = cover }
 
-abbrev pub with_head : Cover → Bool → Headed → Taken
-with_head cover opened headed = record { refusal = headed.refusal; cover = record { count = cover.count; opened = opened; head = headed.head } }
+abbrev pub with_head : Cover → Result Head Refusal → Taken
+with_head cover headed = record { refusal = told_number headed; cover = record { count = cover.count; opened = cover.opened; head = standing_after cover.head headed } }
 
 -- what an open comes to, by the head's answer
-abbrev pub open_taken : Cover → Headed → Taken
-open_taken cover headed = kept headed.refusal (with_head cover true headed) (turned headed.refusal cover)
+abbrev pub open_taken : Cover → Result Head Refusal → Taken
+open_taken cover (Ok head) = record { refusal = 0; cover = record { count = cover.count; opened = true; head = head } }
+open_taken cover (Err r) = turned (paper_number r) cover
 
 -- a head's answer: 1 where the runs are not the ledger's; and 13 for no call
-abbrev pub on_head : Cover → Bool → Headed → Taken
-on_head cover runs headed = pick runs (with_head cover cover.opened headed) (turned wrong_length cover)
+abbrev pub on_head : Cover → Bool → Result Head Refusal → Taken
+on_head cover runs headed = pick runs (with_head cover headed) (turned wrong_length cover)
 
 abbrev pub head_taken : Cover → Bool → Option (Call Fee Item) → Taken
 head_taken cover runs none = turned bad_kind cover

@@ -3,15 +3,16 @@
 #![tactic(auto)]
 
 ghost use Rattle.std.specs.Prelude.{◌≡◌, true};
+ghost use Rattle.units.specs.Refusals.{told_number, result_by};
 ghost use Rattle.head.specs.Inner.{board_in};
 ghost use Rattle.frame.specs.Kinds.{uses_hour};
 ghost use Rattle.frame.specs.Frame.{reading_of};
 ghost use Rattle.book.specs.Book.{open_refusal, open_book, call_of, asked_refusal, asked_book, frame_refusal, frame_book, reading_refusal, book_in};
-ghost use Rattle.book.specs.Inner.{book_of, refusal_number, place_call, place_number, place_left, head_call, open_taken, with_head, on_head, head_taken};
+ghost use Rattle.book.specs.Inner.{book_of, place_call, place_number, place_left, head_call, open_taken, with_head, on_head, head_taken};
 
-use frame::{Entry, Reading, kinds};
-use head::{Head, Headed};
-use units::{Dollars, limits, refusals};
+use frame::{Entry, kinds};
+use head::Head;
+use units::{Dollars, Refusal, limits, refusals};
 
 // What goes from line to line, the month's places left out.
 #[derive(Clone, Copy)]
@@ -33,22 +34,12 @@ pub fn take(cover: Cover, line: &[u8], marks: &mut [bool], amounts: &mut [i64]) 
     ensures number { result.refusal ≡ reading_refusal (book_of cover marks.old amounts.old) (reading_of line.now) }
     ensures book { book_of result.cover marks.new amounts.new ≡ book_in (book_of cover marks.old amounts.old) (reading_of line.now) }
 {
-    let got = frame::read_frame(line);
-    let Reading::Frame(entry) = got else {
-        return Taken {
-            refusal: refusal_number(got),
+    match frame::read_frame(line) {
+        Ok(entry) => take_frame(cover, entry, marks, amounts),
+        Err(refusal) => Taken {
+            refusal: refusal.number(),
             cover,
-        };
-    };
-    take_frame(cover, entry, marks, amounts)
-}
-
-fn refusal_number(got: Reading) -> u8
-    ensures { result ≡ refusal_number got }
-{
-    match got {
-        Reading::Frame(_) => 0,
-        Reading::Refused(n) => n,
+        },
     }
 }
 
@@ -77,29 +68,37 @@ fn open_month(cover: Cover, days: u8, marks: &mut [bool], amounts: &mut [i64]) -
     open_taken(cover, headed)
 }
 
-fn open_taken(cover: Cover, headed: Headed) -> Taken
+fn open_taken(cover: Cover, headed: Result<Head, Refusal>) -> Taken
     ensures { result ≡ open_taken cover headed }
 {
-    if headed.refusal == 0 {
-        return with_head(cover, true, headed);
-    }
-    Taken {
-        refusal: headed.refusal,
-        cover,
+    match headed {
+        Ok(head) => Taken {
+            refusal: 0,
+            cover: Cover {
+                opened: true,
+                head,
+                ..cover
+            },
+        },
+        Err(refusal) => Taken {
+            refusal: refusal.number(),
+            cover,
+        },
     }
 }
 
-// The cover with a head's answer in it.
-fn with_head(cover: Cover, opened: bool, headed: Headed) -> Taken
-    ensures { result ≡ with_head cover opened headed }
+// The cover with what a head's call leaves.
+fn with_head(cover: Cover, headed: Result<Head, Refusal>) -> Taken
+    ensures { result ≡ with_head cover headed }
 {
-    let next = headed.head;
-    Taken {
-        refusal: headed.refusal,
-        cover: Cover {
-            count: cover.count,
-            opened: opened,
-            head: next,
+    match headed {
+        Ok(head) => Taken {
+            refusal: 0,
+            cover: Cover { head, ..cover },
+        },
+        Err(refusal) => Taken {
+            refusal: refusal.number(),
+            cover,
         },
     }
 }
@@ -116,39 +115,46 @@ fn call_month(cover: Cover, entry: Entry, marks: &mut [bool], amounts: &mut [i64
         };
     }
     if uses_hour(entry.kind) {
-        let head = cover.head;
-        let k = call_place(head, entry, marks, amounts);
-        return Taken { refusal: k, cover };
+        let refusal = told_number(call_place(cover.head, entry, marks, amounts));
+        return Taken { refusal, cover };
     }
     let runs = (marks.len() == limits::PLACES) & (amounts.len() == limits::PLACES);
-    let amount = entry.amount;
-    call_head(cover, entry.kind, amount, runs)
+    call_head(cover, entry.kind, entry.amount, runs)
 }
 
 // Whether a kind's call touches a place.
 fn uses_hour(kind: u8) -> bool
     ensures { result ≡ uses_hour kind }
 {
-    (kind == kinds::POST) | (kind == kinds::REPLACE) | (kind == kinds::WITHDRAW)
+    matches!(kind, kinds::POST | kinds::REPLACE | kinds::WITHDRAW)
 }
 
 // A post, a replacement or a withdrawal. Any other kind is no call at a place.
-fn call_place(head: Head, entry: Entry, marks: &mut [bool], amounts: &mut [i64]) -> u8
-    ensures number { result ≡ place_number head.days (board_in head marks.old amounts.old) (place_call entry) }
+fn call_place(
+    head: Head,
+    entry: Entry,
+    marks: &mut [bool],
+    amounts: &mut [i64],
+) -> Result<(), Refusal>
+    ensures number { result ≡ result_by (place_number head.days (board_in head marks.old amounts.old) (place_call entry)) tt }
     ensures board { board_in head marks.new amounts.new ≡ place_left head.days (board_in head marks.old amounts.old) (place_call entry) }
 {
     let place = head::place_of(entry.day, entry.hour);
-    let amount = entry.amount;
-    if entry.kind == kinds::POST {
-        return board::post_in(head, marks, amounts, place, amount);
+    match entry.kind {
+        kinds::POST => board::post_in(head, marks, amounts, place, entry.amount),
+        kinds::REPLACE => board::replace_in(head, marks, amounts, place, entry.amount),
+        kinds::WITHDRAW => board::withdraw_in(head, marks, amounts, place),
+        _ => Err(Refusal::BadKind),
     }
-    if entry.kind == kinds::REPLACE {
-        return board::replace_in(head, marks, amounts, place, amount);
+}
+
+fn told_number(answer: Result<(), Refusal>) -> u8
+    ensures { result ≡ told_number answer }
+{
+    match answer {
+        Ok(()) => 0,
+        Err(refusal) => refusal.number(),
     }
-    if entry.kind == kinds::WITHDRAW {
-        return board::withdraw_in(head, marks, amounts, place);
-    }
-    refusals::BAD_KIND
 }
 
 // The calls that touch no place. Any other kind is no call.
@@ -156,28 +162,23 @@ fn call_place(head: Head, entry: Entry, marks: &mut [bool], amounts: &mut [i64])
 fn call_head(cover: Cover, kind: u8, amount: Dollars, runs: bool) -> Taken
     ensures { result ≡ head_taken cover runs (head_call kind amount.0) }
 {
-    let head = cover.head;
-    if kind == kinds::BASIC_FEE {
-        return on_head(cover, runs, head::set_basic_fee(head, amount));
-    }
-    if kind == kinds::EXCESS_FEE {
-        return on_head(cover, runs, head::set_excess_fee(head, amount));
-    }
-    if kind == kinds::CLOSE {
-        return on_head(cover, runs, head::close(head));
-    }
-    Taken {
-        refusal: refusals::BAD_KIND,
-        cover,
+    match kind {
+        kinds::BASIC_FEE => on_head(cover, runs, head::set_basic_fee(cover.head, amount)),
+        kinds::EXCESS_FEE => on_head(cover, runs, head::set_excess_fee(cover.head, amount)),
+        kinds::CLOSE => on_head(cover, runs, head::close(cover.head)),
+        _ => Taken {
+            refusal: refusals::BAD_KIND,
+            cover,
+        },
     }
 }
 
 // A head's answer, where the runs are the ledger's; 1 where they are not.
-fn on_head(cover: Cover, runs: bool, headed: Headed) -> Taken
+fn on_head(cover: Cover, runs: bool, headed: Result<Head, Refusal>) -> Taken
     ensures { result ≡ on_head cover runs headed }
 {
     if runs {
-        return with_head(cover, cover.opened, headed);
+        return with_head(cover, headed);
     }
     Taken {
         refusal: refusals::WRONG_LENGTH,

@@ -12,13 +12,15 @@ use mir.Syntax.{w64}
 use mir.Val.{SFits}
 use Rattle.whole.specs.Folds.{fold_to, all_to}
 use Rattle.whole.specs.Whole.{minus, Within, in_range, nearest, with_sign, half_up}
-use Rattle.whole.proofs.Choice.{all_passed, kept_new}
+use Rattle.whole.proofs.Choice.{all_passed}
 use Rattle.whole.proofs.Folds.{all_at}
 use Rattle.whole.proofs.Signed.{signed, difference, inside}
 use Rattle.whole.proofs.Sums.{in_within}
 use Rattle.units.specs.Limits.{nominal, least_reference, most_reference, is_reference, least_frequency, most_frequency, is_frequency}
 use Rattle.units.specs.Refusals.{bad_reference, bad_reading}
 use Rattle.units.specs.declared.Millihertz.{Millihertz}
+use Rattle.std.specs.Prelude.{Ok}
+use Rattle.units.proofs.Numbered.{answered_ok}
 use Rattle.curve.specs.Curve.{reach, Corner, at_distance, upper_at, lower_at, moved_back, bounds_by, curve_refusal, curve_at, first_frequency, last_place, pairs_of, most_percent}
 use Rattle.curve.specs.Moved.{CurveFits}
 use Rattle.curve.specs.Inner.{past_first, place_past, place_by, place_at}
@@ -90,9 +92,9 @@ module _ (f r : Millihertz) where
   fit_curve e = rw (e.reference, e.frequency)
 
   -- a frequency and a reference in their ranges have the bounds of the frequency moved back
-  pub curve_granted : curve_refusal f r ≡ 0 → curve_at f r ≡ bounds_by r.0 f.0
+  pub curve_granted : curve_refusal f r ≡ 0 → curve_at f r ≡ Ok (bounds_by r.0 f.0)
   unfolding curve_at
-  curve_granted e = kept_new _ _ e
+  curve_granted e = answered_ok _ e
 
 -- the first corner around a reference, and how far a frequency lies past it, fit 64 bits
 pub record PastFits (r f : ℤ) : Type 0 where

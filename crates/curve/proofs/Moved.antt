@@ -15,6 +15,8 @@ use Rattle.whole.proofs.Choice.{by_test}
 use Rattle.whole.proofs.Signed.{signed, sum, difference, inside}
 use Rattle.units.specs.Limits.{nominal, is_reference, is_frequency}
 use Rattle.units.specs.Units.{millihertz}
+use Rattle.std.specs.Prelude.{Result, Ok}
+use Rattle.units.specs.declared.refusal.Refusal.{Refusal}
 use Rattle.units.specs.declared.Millihertz.{Millihertz}
 use Rattle.curve.specs.Curve.{Corner, at_distance, bound, upper_at, lower_at, moved_back, bounds_at, curve_refusal, curve_at}
 use Rattle.curve.specs.Moved.{CurveFits, curve_unmoved, unmoved, moved_by}
@@ -51,7 +53,7 @@ unmoved_curve f =
     (λ (t : is_frequency f.0 ≡ true). rw (unmoved_fits, t, back_unmoved f.0))
     (λ (t : is_frequency f.0 ≡ false). rw (unmoved_fits, t))
 
-pub curve_unmoved_lem : (κs : Lfts 0) (f : Millihertz) (x : Bounds) (s : AtExit (ended_of 0 curve_kinds.ps curve_kinds.r) κs)
+pub curve_unmoved_lem : (κs : Lfts 0) (f : Millihertz) (x : Result Bounds Refusal) (s : AtExit (ended_of 0 curve_kinds.ps curve_kinds.r) κs)
     → curve.Post κs (f, (unmoved, tt)) x s → x ≡ curve_unmoved f
 curve_unmoved_lem κs f x s p = p ∙ unmoved_curve f
 
@@ -59,9 +61,9 @@ curve_unmoved_lem κs f x s p = p ∙ unmoved_curve f
 
 pub together_curve : (d : ℤ) (f r : Millihertz) → CurveFits f r → CurveFits (moved_by d f) (moved_by d r) → curve_at (moved_by d f) (moved_by d r) ≡ curve_at f r
 together_curve d f r e g =
-    curve_granted (moved_by d f) (moved_by d r) (fit_curve _ _ g) ∙ ap bounds_at (back_together d r.0 f.0) ∙ sym (curve_granted f r (fit_curve f r e))
+    curve_granted (moved_by d f) (moved_by d r) (fit_curve _ _ g) ∙ ap (λ f. Ok (bounds_at f)) (back_together d r.0 f.0) ∙ sym (curve_granted f r (fit_curve f r e))
 
-pub curve_together : (κs ηs : Lfts 0) (d : ℤ) (f r : Millihertz) (x y : Bounds)
+pub curve_together : (κs ηs : Lfts 0) (d : ℤ) (f r : Millihertz) (x y : Result Bounds Refusal)
     (s : AtExit (ended_of 0 curve_kinds.ps curve_kinds.r) κs) (t : AtExit (ended_of 0 curve_kinds.ps curve_kinds.r) ηs)
     → curve.Post κs (f, (r, tt)) x s → curve.Post ηs (moved_by d f, (moved_by d r, tt)) y t → CurveFits f r → CurveFits (moved_by d f) (moved_by d r) → y ≡ x
 curve_together κs ηs d f r x y s t p q e g = q ∙ together_curve d f r e g ∙ sym p
@@ -70,8 +72,8 @@ curve_together κs ηs d f r x y s t p q e g = q ∙ together_curve d f r e g �
 
 -- the frequency f and the reference, both moved by d, have the percents u and l
 abbrev pub CornerMoved : ℕ → ℤ → ℤ → Type 0
-CornerMoved f u l = (κs : Lfts 0) (d : ℤ) (x : Bounds) (s : AtExit (ended_of 0 curve_kinds.ps curve_kinds.r) κs) → in_range (minus 500) (pos 500) d ≡ true
-    → curve.Post κs (moved_by d (millihertz (pos f)), (moved_by d unmoved, tt)) x s → x ≡ record { refusal = 0; upper = u; lower = l }
+CornerMoved f u l = (κs : Lfts 0) (d : ℤ) (x : Result Bounds Refusal) (s : AtExit (ended_of 0 curve_kinds.ps curve_kinds.r) κs) → in_range (minus 500) (pos 500) d ≡ true
+    → curve.Post κs (moved_by d (millihertz (pos f)), (moved_by d unmoved, tt)) x s → x ≡ Ok (record { upper = u; lower = l })
 
 in_reach : (f : ℕ) (d : ℤ) → 59750 ≤ f → f ≤ 60250 → in_range (minus 500) (pos 500) d ≡ true → CurveFits (moved_by d (millihertz (pos f))) (moved_by d unmoved)
 in_reach f d least most e =
@@ -83,7 +85,7 @@ in_reach f d least most e =
 corner_moved : (f : ℕ) → 59750 ≤ f → f ≤ 60250 → CornerMoved f (upper_at (pos f)) (lower_at (pos f))
 corner_moved f least most κs d x s e p =
     let g = in_reach f d least most e in
-    p ∙ curve_granted _ _ (fit_curve _ _ g) ∙ ap bounds_at (back_together d (pos nominal) (pos f) ∙ back_unmoved (pos f))
+    p ∙ curve_granted _ _ (fit_curve _ _ g) ∙ ap (λ f. Ok (bounds_at f)) (back_together d (pos nominal) (pos f) ∙ back_unmoved (pos f))
 
 -- document 01's table: 59.75, 59.86, 59.98, 60.02, 60.14 and 60.25 Hz
 pub corners_moved : CornerMoved 59750 (pos 100) (pos 100) × CornerMoved 59860 (pos 52) (pos 52) × CornerMoved 59980 (pos 9) (minus 9)

@@ -1,11 +1,12 @@
 -- Document 01, "The power curve" (document 001, table 1): upper and lower power in percent of capacity, straight between the corners. The table stands by distances
 -- from a reference frequency, which is 60 Hz where nobody moves it (document 02, #107).
-use Rattle.std.specs.Prelude.{ℕ, zero, suc, ◌+◌, ◌*◌, ◌-◌, List, [], ◌∷◌, ℤ, pos, nat_abs, ◌+ℤ◌, ◌-ℤ◌, ◌*ℤ◌}
+use Rattle.std.specs.Prelude.{ℕ, zero, suc, ◌+◌, ◌*◌, ◌-◌, List, [], ◌∷◌, Result, ℤ, pos, nat_abs, ◌+ℤ◌, ◌-ℤ◌, ◌*ℤ◌}
 use Rattle.std.specs.Int.Signed.{le_z}
-use Rattle.whole.specs.Choice.{pick, in_order, kept}
+use Rattle.whole.specs.Choice.{pick, in_order}
 use Rattle.whole.specs.Whole.{minus, nearest}
 use Rattle.units.specs.Limits.{nominal, is_reference, is_frequency}
-use Rattle.units.specs.Refusals.{bad_reference, bad_reading}
+use Rattle.units.specs.Refusals.{bad_reference, bad_reading, result_by}
+use Rattle.units.specs.declared.refusal.Refusal.{Refusal}
 use Rattle.units.specs.declared.Millihertz.{Millihertz}
 use Rattle.curve.specs.declared.Bounds.{Bounds}
 
@@ -70,21 +71,18 @@ abbrev pub lower_by : ℤ → ℤ → ℤ
 lower_by reference f = lower_at (moved_back reference f)
 
 abbrev pub bounds_at : ℤ → Bounds
-bounds_at f = record { refusal = 0; upper = upper_at f; lower = lower_at f }
+bounds_at f = record { upper = upper_at f; lower = lower_at f }
 
 abbrev pub bounds_by : ℤ → ℤ → Bounds
-bounds_by reference f = record { refusal = 0; upper = upper_by reference f; lower = lower_by reference f }
-
-abbrev pub no_bounds : ℕ → Bounds
-no_bounds k = record { refusal = k; upper = pos 0; lower = pos 0 }
+bounds_by reference f = record { upper = upper_by reference f; lower = lower_by reference f }
 
 -- "19 for a reference outside the range" (document 02, #107), 4
 unfoldable pub curve_refusal : Millihertz → Millihertz → ℕ
 curve_refusal frequency reference = in_order ((is_reference reference.0, bad_reference) ∷ (is_frequency frequency.0, bad_reading) ∷ [])
 
 -- the pair of a frequency by a reference, each in its range
-unfoldable pub curve_at : Millihertz → Millihertz → Bounds
-curve_at frequency reference = let k = curve_refusal frequency reference in kept k (bounds_by reference.0 frequency.0) (no_bounds k)
+unfoldable pub curve_at : Millihertz → Millihertz → Result Bounds Refusal
+curve_at frequency reference = result_by (curve_refusal frequency reference) (bounds_by reference.0 frequency.0)
 
 -- n pairs, an upper bound and its lower one, from the frequency f on
 abbrev pub pairs_from : ℕ → ℕ → List ℤ

@@ -1,11 +1,12 @@
 -- What the theorems of document 02, #107 (proofs/Accepted.antt, proofs/Moved.antt) are stated in: what fits; the curve as document 01 has it, with no reference; millihertz, moved.
-use Rattle.std.specs.Prelude.{◌≡◌, true, ℤ, pos, ◌+ℤ◌}
+use Rattle.std.specs.Prelude.{◌≡◌, true, Result, Ok, Err, ℤ, pos, ◌+ℤ◌}
 use Rattle.whole.specs.Choice.{pick}
 use Rattle.units.specs.Limits.{nominal, is_reference, is_frequency}
-use Rattle.units.specs.Refusals.{bad_reading}
+use Rattle.units.specs.declared.refusal.Refusal.{Refusal}
+use Rattle.units.specs.declared.refusal.Refusal.TheVariants.{BadReading}
 use Rattle.units.specs.Units.{millihertz}
 use Rattle.units.specs.declared.Millihertz.{Millihertz}
-use Rattle.curve.specs.Curve.{bounds_at, no_bounds}
+use Rattle.curve.specs.Curve.{bounds_at}
 use Rattle.curve.specs.declared.Bounds.{Bounds}
 
 -- each test of the refusal, as a fact
@@ -14,8 +15,8 @@ pub record CurveFits (f r : Millihertz) : Type 0 where
   pub frequency : is_frequency f.0 ≡ true
 
 -- "At 60,000 the old answers are shown to stand": the pair of a frequency in its range; others are refused with 4
-unfoldable pub curve_unmoved : Millihertz → Bounds
-curve_unmoved frequency = pick (is_frequency frequency.0) (bounds_at frequency.0) (no_bounds bad_reading)
+unfoldable pub curve_unmoved : Millihertz → Result Bounds Refusal
+curve_unmoved frequency = pick (is_frequency frequency.0) (Ok (bounds_at frequency.0)) (Err BadReading)
 
 -- the reference where nobody moves it
 abbrev pub unmoved : Millihertz

@@ -3,11 +3,12 @@
 #![tactic(auto)]
 
 ghost use Rattle.std.specs.Prelude.{◌≡◌};
+ghost use Rattle.units.specs.Refusals.{result_by};
 ghost use Rattle.curve.specs.Curve.{curve_refusal, curve_at, bounds_by, pairs_of};
 ghost use Rattle.curve.specs.Moved.{CurveFits};
 ghost use Rattle.curve.specs.Inner.{place_past};
 
-use units::{Millihertz, limits, refusals};
+use units::{Millihertz, Refusal, limits};
 
 mod table;
 
@@ -22,40 +23,35 @@ const LAST_PLACE: usize = SPAN as usize;
 // An upper and a lower bound for each of its places.
 const ENTRIES: usize = 4 * REACH as usize + 2;
 
-// The two bounds of a frequency, or its refusal with zeros.
+// The two bounds of a frequency.
 #[derive(Clone, Copy)]
 pub struct Bounds {
-    pub refusal: u8,
     pub upper: i64,
     pub lower: i64,
 }
 
 // The curve at a frequency by a reference, with which every corner moves: the table at the frequency moved back, below
-// it its first pair, above it its last.
-pub fn curve(frequency: Millihertz, reference: Millihertz) -> Bounds
+// it its first pair, above it its last; or 19 or 4.
+#[tactic(auto, using(crate::proofs::Limits::curve_fit, units::proofs::Numbered::let_through), unfolding(crate::specs::Curve::curve_at))]
+pub fn curve(frequency: Millihertz, reference: Millihertz) -> Result<Bounds, Refusal>
     ensures { result ≡ curve_at frequency reference }
 {
-    let k = refusal(frequency, reference);
-    if k != 0 {
-        return Bounds {
-            refusal: k,
-            upper: 0,
-            lower: 0,
-        };
-    }
-    bounds_at(frequency, reference)
+    refusal(frequency, reference)?;
+    Ok(bounds_at(frequency, reference))
 }
 
-// 19, 4; 0 lets the frequency through.
-fn refusal(frequency: Millihertz, reference: Millihertz) -> u8
-    ensures { result ≡ curve_refusal frequency reference }
+// 19, 4.
+#[tactic(auto, unfolding(crate::specs::Curve::curve_refusal))]
+fn refusal(frequency: Millihertz, reference: Millihertz) -> Result<(), Refusal>
+    ensures { result ≡ result_by (curve_refusal frequency reference) tt }
 {
-    let f = frequency.0;
-    let around = reference.0;
-    let read = whole::within(f, limits::LEAST_FREQUENCY, limits::MOST_FREQUENCY);
-    let reading = whole::unless(read, refusals::BAD_READING, 0);
-    let referred = whole::within(around, limits::LEAST_REFERENCE, limits::MOST_REFERENCE);
-    whole::unless(referred, refusals::BAD_REFERENCE, reading)
+    if !whole::within(reference.0, limits::LEAST_REFERENCE, limits::MOST_REFERENCE) {
+        return Err(Refusal::BadReference);
+    }
+    if !whole::within(frequency.0, limits::LEAST_FREQUENCY, limits::MOST_FREQUENCY) {
+        return Err(Refusal::BadReading);
+    }
+    Ok(())
 }
 
 // The place among the table's pairs that is read so many millihertz past the first corner: the nearer end outside.
@@ -93,9 +89,5 @@ fn bounds_at(frequency: Millihertz, reference: Millihertz) -> Bounds
     let k = 2 * place(past);
     let upper = pairs[k] as i64;
     let lower = pairs[k + 1] as i64;
-    Bounds {
-        refusal: 0,
-        upper,
-        lower,
-    }
+    Bounds { upper, lower }
 }

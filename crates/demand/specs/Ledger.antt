@@ -1,13 +1,14 @@
 -- The month ledger as its contracts state it, as the source has them (`Post` of each function's `Reads`): what demand 3 is stated over.
-use Rattle.std.specs.Prelude.{ℕ, Bool, ℤ}
+use Rattle.std.specs.Prelude.{ℕ, ◌≡◌, Bool, Result, Ok, Err, ℤ, pos}
+use Rattle.units.specs.Refusals.{paper_number, told_number}
 use Rattle.units.specs.Units.{dollars}
+use Rattle.units.specs.declared.refusal.Refusal.{Refusal}
 use Rattle.units.specs.declared.Dollars.{Dollars}
 use Rattle.history.specs.Rules.{Call}
 use Rattle.history.specs.Demand.{Ledger}
 use Rattle.head.specs.Rules.{Fee, Item, month_rules}
-use Rattle.board.specs.Board.{told_of}
+use Rattle.head.specs.Inner.{standing_after}
 use Rattle.month.specs.declared.Month.{Month}
-use Rattle.month.specs.declared.Booked.{Booked}
 use Rattle.month.proofs.Month.«open».Reads as open_reads
 use Rattle.month.proofs.Month.post.Reads as post_reads
 use Rattle.month.proofs.Month.replace.Reads as replace_reads
@@ -24,8 +25,27 @@ use Rattle.month.proofs.Month.standing.Reads as standing_reads
 
 -- what an answer may be: a parameter by value is at exit as it was
 
-abbrev pub booked : ℕ → Month → Booked
-booked k m = record { refusal = k; month = m }
+-- an answer that meets a call's contract, as its number and the month that stands after it: the answer's, or the one that was handed in where it is refused
+pub record Booked (m : Month) (Post : Result Month Refusal → Type 0) (k : ℕ) (n : Month) : Type 0 where
+  pub answer : Result Month Refusal
+  pub post : Post answer
+  pub number : k ≡ told_number answer
+  pub left : n ≡ standing_after m answer
+
+-- an answer that meets a read-out's contract, as its number and its figure: that of nothing where it is refused
+abbrev pub figure_of : {A B : Type 0} → (A → B) → B → Result A Refusal → ℕ × B
+figure_of figure nothing (Ok a) = (0, figure a)
+figure_of figure nothing (Err r) = (paper_number r, nothing)
+
+pub record Told (Post : Result Dollars Refusal → Type 0) (r : ℕ × ℤ) : Type 0 where
+  pub answer : Result Dollars Refusal
+  pub post : Post answer
+  pub told : r ≡ figure_of (λ (a : Dollars). a.0) (pos 0) answer
+
+pub record Counted (Post : Result ℕ Refusal → Type 0) (r : ℕ × ℕ) : Type 0 where
+  pub answer : Result ℕ Refusal
+  pub post : Post answer
+  pub told : r ≡ figure_of (λ (n : ℕ). n) 0 answer
 
 abbrev pub posting_of : Month → ℕ → ℕ → ℤ → Month × (ℕ × (ℕ × (Dollars × Unit {0})))
 posting_of m d x a = (m, (d, (x, (dollars a, tt))))
@@ -37,29 +57,29 @@ abbrev pub setting : Month → ℤ → Month × (Dollars × Unit {0})
 setting m z = (m, (dollars z, tt))
 
 abbrev pub Answers : Month → Call Fee Item → ℕ → Month → Type 0
-Answers m (Call.post d x a) k n = post_reads.Post tt (posting_of m d x a.1) (booked k n) (posting_of m d x a.1)
-Answers m (Call.replace d x a) k n = replace_reads.Post tt (posting_of m d x a.1) (booked k n) (posting_of m d x a.1)
-Answers m (Call.withdraw d x) k n = withdraw_reads.Post tt (at m d x) (booked k n) (at m d x)
-Answers m (Call.loss_fee Fee.basic z) k n = set_basic_fee_reads.Post tt (setting m z) (booked k n) (setting m z)
-Answers m (Call.loss_fee Fee.excess z) k n = set_excess_fee_reads.Post tt (setting m z) (booked k n) (setting m z)
-Answers m Call.close k n = close_reads.Post tt (m, tt) (booked k n) (m, tt)
+Answers m (Call.post d x a) k n = Booked m (λ y. post_reads.Post tt (posting_of m d x a.1) y (posting_of m d x a.1)) k n
+Answers m (Call.replace d x a) k n = Booked m (λ y. replace_reads.Post tt (posting_of m d x a.1) y (posting_of m d x a.1)) k n
+Answers m (Call.withdraw d x) k n = Booked m (λ y. withdraw_reads.Post tt (at m d x) y (at m d x)) k n
+Answers m (Call.loss_fee Fee.basic z) k n = Booked m (λ y. set_basic_fee_reads.Post tt (setting m z) y (setting m z)) k n
+Answers m (Call.loss_fee Fee.excess z) k n = Booked m (λ y. set_excess_fee_reads.Post tt (setting m z) y (setting m z)) k n
+Answers m Call.close k n = Booked m (λ y. close_reads.Post tt (m, tt) y (m, tt)) k n
 
 -- what is told of each loss fee
 abbrev pub FeeAnswers : Month → Fee → ℕ × ℤ → Type 0
-FeeAnswers m Fee.basic r = basic_fee_reads.Post tt (m, tt) (told_of r) (m, tt)
-FeeAnswers m Fee.excess r = excess_fee_reads.Post tt (m, tt) (told_of r) (m, tt)
+FeeAnswers m Fee.basic r = Told (λ y. basic_fee_reads.Post tt (m, tt) y (m, tt)) r
+FeeAnswers m Fee.excess r = Told (λ y. excess_fee_reads.Post tt (m, tt) y (m, tt)) r
 
 -- the month ledger: a plan is a number of days
 abbrev pub month_ledger : Ledger ℕ Fee Bool ℤ Month
 month_ledger =
     record {
       rules = month_rules;
-      Opens = λ days m. open_reads.Post tt (days, tt) (booked 0 m) (days, tt);
+      Opens = λ days m. open_reads.Post tt (days, tt) (Ok m) (days, tt);
       Answers = Answers;
-      Hour = λ m d x r. hour_reads.Post tt (at m d x) (told_of r) (at m d x);
-      Day = λ m d r. day_reads.Post tt (m, (d, tt)) (told_of r) (m, (d, tt));
+      Hour = λ m d x r. Told (λ y. hour_reads.Post tt (at m d x) y (at m d x)) r;
+      Day = λ m d r. Told (λ y. day_reads.Post tt (m, (d, tt)) y (m, (d, tt))) r;
       Part = λ _ _ _. ⊥;
       Fee = FeeAnswers;
-      Total = λ m r. total_reads.Post tt (m, tt) (told_of r) (m, tt);
-      Standing = λ m r. standing_reads.Post tt (m, tt) (record { refusal = r.0; standing = r.1 }) (m, tt);
+      Total = λ m r. Told (λ y. total_reads.Post tt (m, tt) y (m, tt)) r;
+      Standing = λ m r. Counted (λ y. standing_reads.Post tt (m, tt) y (m, tt)) r;
     }

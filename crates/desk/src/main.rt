@@ -1,26 +1,12 @@
 // The program `desk`: reads, feeds what it read to crates/replies, writes what that answers, and stops.
 #![tactic(auto)]
 
-ghost use Rattle.std.specs.Prelude.{◌≤◌, length, ◌≡◌, IfOk};
+ghost use Rattle.std.specs.Prelude.{length, ◌≡◌};
 
 use asked::State;
 use std::io;
 use std::io::{Read, Write};
 use std::process::ExitCode;
-
-// The state after a read, and whether there is more to read.
-#[derive(Drop)]
-struct Turn {
-    state: State,
-    more: bool,
-}
-
-// The state after a call, and how far the chunk is read.
-#[derive(Drop)]
-struct Step {
-    state: State,
-    from: usize,
-}
 
 // The numbers of a question.
 fn numbers() -> [i64; 8192]
@@ -36,59 +22,27 @@ fn room() -> [u8; 32768]
     [0; 32768]
 }
 
-// Feeds what stands from a place of the chunk on, and writes what that answers.
-fn feed_on(
-    writer: &mut impl Write,
-    state: State,
-    chunk: &[u8],
-    from: usize,
-    numbers: &mut [i64],
-    out: &mut [u8],
-) -> io::Result<Step>
-    requires { from ≤ length chunk.now }
-    ensures { IfOk result (λ step. step.from ≤ length chunk.now) }
-{
-    let fed = replies::feed(state, &chunk[from..], numbers, out);
-    writer.write_all(&out[..fed.written])?;
-    Ok(Step {
-        state: fed.state,
-        from: from + fed.taken,
-    })
-}
-
-// Answers the questions that end in a chunk.
+// Answers the questions that end in a chunk, one call after another on what is left of it. (That a call takes some of
+// the chunk is no part of its contract, so the calls are counted.)
 fn answer_all(
     writer: &mut impl Write,
-    state: State,
+    start: State,
     chunk: &[u8],
     numbers: &mut [i64],
     out: &mut [u8],
 ) -> io::Result<State> {
-    let mut now = Step { state, from: 0 };
+    let mut state = start;
+    let mut left = chunk;
     for _ in 0..u64::MAX {
-        if now.from == chunk.len() {
+        if left.is_empty() {
             break;
         }
-        now = feed_on(writer, now.state, chunk, now.from, numbers, out)?;
+        let fed = replies::feed(state, left, numbers, out);
+        writer.write_all(&out[..fed.written])?;
+        state = fed.state;
+        left = &left[fed.taken..];
     }
-    Ok(now.state)
-}
-
-// One read, and the answers to the questions that end in it.
-fn read_once(
-    reader: &mut impl Read,
-    writer: &mut impl Write,
-    state: State,
-    input: &mut [u8],
-    numbers: &mut [i64],
-    out: &mut [u8],
-) -> io::Result<Turn> {
-    let n = reader.read(input)?;
-    let next = answer_all(writer, state, &input[..n], numbers, out)?;
-    Ok(Turn {
-        state: next,
-        more: 0 < n,
-    })
+    Ok(state)
 }
 
 // The input's end, and what it answers.
@@ -102,16 +56,17 @@ fn close(
     writer.write_all(&out[..finished.written])
 }
 
-// Reads to the input's end.
+// Reads to the input's end. (A loop is proved to end, and a reader says nothing of how often it can be read: so reads
+// are counted.)
 fn run(reader: &mut impl Read, writer: &mut impl Write) -> io::Result<()> {
     let mut numbers = numbers();
     let mut input = [0u8; 65536];
     let mut out = room();
     let mut state = asked::start();
     for _ in 0..u64::MAX {
-        let turn = read_once(reader, writer, state, &mut input, &mut numbers, &mut out)?;
-        state = turn.state;
-        if !turn.more {
+        let n = reader.read(&mut input)?;
+        state = answer_all(writer, state, &input[..n], &mut numbers, &mut out)?;
+        if n == 0 {
             break;
         }
     }

@@ -14,7 +14,7 @@ use borrow.Author.Tests.{eqb-true, eq-eqb}
 use Rattle.whole.specs.Choice.{pick}
 use Rattle.whole.specs.Folds.{fold_to, sum_to, sum_of}
 use Rattle.whole.specs.Whole.{minus, Within, Between, nearest, with_sign, half_up}
-use Rattle.whole.proofs.Choice.{both, and_both, all_passed, kept_new}
+use Rattle.whole.proofs.Choice.{and_both, all_passed, kept_new}
 use Rattle.whole.proofs.Folds.{fold_same}
 use Rattle.whole.proofs.Rounding.{nearest_within}
 use Rattle.whole.proofs.Signed.{inside, opposite, product, sum, within_size}

@@ -116,6 +116,7 @@ fn is_price(z: i64) -> bool
     whole::within(z, 0, limits::PRICE)
 }
 
+#[tactic(auto, unfolding(crate::specs::Fees::no_charge))]
 fn no_charge(k: u8) -> Charged
     ensures { result ≡ no_charge k }
 {
@@ -125,6 +126,7 @@ fn no_charge(k: u8) -> Charged
     }
 }
 
+#[tactic(auto, unfolding(crate::specs::Fees::energy_refusal))]
 fn energy_refusal(powers: &[i64], targets: &[i64], discharge: i64, charge: i64) -> u8
     ensures { result ≡ energy_refusal powers.now targets.now discharge charge }
 {
@@ -156,11 +158,8 @@ fn four_quarters(powers: &[i64], targets: &[i64], discharge: i64, charge: i64) -
     ensures { result ≡ energy_parts powers.now targets.now discharge charge }
 {
     let mut sum: i64 = 0;
-    let mut q = 0;
-    while q < 4 {
-        let part = quarter_part(powers, targets, discharge, charge, q);
-        sum += part;
-        q += 1;
+    for q in 0..4 {
+        sum += quarter_part(powers, targets, discharge, charge, q);
     }
     sum
 }
@@ -182,15 +181,14 @@ fn power_sum(powers: &[i64]) -> i64
     ensures { result ≡ sum_of powers.now }
 {
     let mut sum: i64 = 0;
-    let mut i = 0;
-    while i < powers.len() {
-        sum += powers[i];
-        i += 1;
+    for power in powers {
+        sum += *power;
     }
     sum
 }
 
 // The price that a quarter's target brings: charging changes the sign.
+#[tactic(auto, unfolding(crate::specs::Fees::signed_price))]
 fn signed_price(discharge: i64, charge: i64, target: i64) -> i64
     requires { (is_price discharge ≡ true) × (is_price charge ≡ true) }
     ensures { result ≡ signed_price discharge charge target }

@@ -9,13 +9,13 @@ use Rattle.curve.specs.Curve.{upper_at, lower_at}
 use Rattle.ramp.specs.Ramp.{ramp_at}
 use Rattle.score.specs.Score.{score_of}
 use Rattle.rate.specs.Rolling.{rolling}
-use Rattle.bands.specs.Bands.{fall, bands_fit, bands_refusal, first_place, factor_refusal, with_factor, factor_answer}
+use Rattle.bands.specs.Bands.{fall, bands_fit, bands_refusal, first_place, factor_refusal, factor_answer}
 use Rattle.fees.specs.Fees.{quality_part, signed_price, quarter_part, energy_fee}
 use Rattle.loss.specs.Loss.{at_least_zero, percent, basic_fee, excess_fee}
 use Rattle.figures.specs.Figures.{side, figures, Agree}
 
 figures_agree : Agree figures
-unfolding figures fold_to in_range all_in_range apart with_sign half_up round_up nearest away upper_at lower_at ramp_at score_of rolling fall bands_fit bands_refusal first_place factor_refusal with_factor factor_answer quality_part signed_price quarter_part energy_fee at_least_zero percent basic_fee excess_fee
+unfolding figures fold_to in_range all_in_range apart with_sign half_up round_up nearest away upper_at lower_at ramp_at score_of rolling fall bands_fit bands_refusal first_place factor_refusal factor_answer quality_part signed_price quarter_part energy_fee at_least_zero percent basic_fee excess_fee
 figures_agree = (
   refl,
   (

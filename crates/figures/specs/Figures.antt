@@ -6,6 +6,7 @@ use Rattle.curve.specs.Curve.{upper_at, lower_at}
 use Rattle.ramp.specs.Ramp.{ramp_at}
 use Rattle.score.specs.Score.{score_of}
 use Rattle.rate.specs.Rolling.{rolling}
+use Rattle.std.specs.Result.{result_unwrap_or}
 use Rattle.bands.specs.Bands.{factor_answer}
 use Rattle.fees.specs.Fees.{quality_part, energy_fee}
 use Rattle.loss.specs.Loss.{basic_fee, excess_fee}
@@ -26,7 +27,7 @@ factors = pos 10 ∷ pos 8 ∷ pos 6 ∷ pos 4 ∷ pos 2 ∷ pos 0 ∷ minus 10 
 
 -- "rate 94, fees 4,350 and 3,500, list S"
 abbrev pub quality : ℕ → ℤ → ℤ → ℤ
-quality rate capacity performance = quality_part capacity performance (factor_answer thresholds factors rate).factor
+quality rate capacity performance = quality_part capacity performance (result_unwrap_or (factor_answer thresholds factors rate) (pos 0))
 
 -- "scores 100 90 50 90 90 70 95 100 100 60 100 roll to .."
 abbrev pub scores : List ℕ

@@ -9,7 +9,6 @@ mod ramp_cases;
 mod reached_cases;
 mod records_cases;
 mod score_cases;
-mod text;
 
 use std::io;
 

@@ -1,65 +1,64 @@
 // The quality bands as records: the functions that take a lent slice of structs.
 ghost use Rattle.std.specs.Prelude.{◌≡◌, ◌≤◌, take};
+ghost use Rattle.units.specs.Refusals.{result_by};
 ghost use Rattle.records.specs.Records.{records_refusal, records_answer};
 
-use crate::text;
-use bands::Factored;
 use records::Band;
 use std::io;
+use units::Refusal;
 
 // What the two functions answer: the list's check, and the factor of a rate.
 #[derive(Drop)]
 struct Told {
-    check: u8,
-    found: Factored,
+    check: Result<(), Refusal>,
+    found: Result<i64, Refusal>,
 }
 
 pub(crate) fn records(rt: &impl Print) -> io::Result<()> {
-    text::heading(rt, b"records")?;
-    of_list_s(rt, b"list S", 7, 100)?;
-    of_list_s(rt, b"list S", 7, 95)?;
-    of_list_s(rt, b"list S", 7, 94)?;
-    of_list_s(rt, b"list S", 7, 70)?;
-    of_list_s(rt, b"list S", 7, 69)?;
-    of_list_s(rt, b"list S", 7, 0)?;
-    of_list_s(rt, b"list S", 7, 101)?;
-    of_list_s(rt, b"last not 0", 6, 95)?;
-    of_list_s(rt, b"none", 0, 95)?;
+    println!(rt; "records")?;
+    of_list_s(rt, "list S", 7, 100)?;
+    of_list_s(rt, "list S", 7, 95)?;
+    of_list_s(rt, "list S", 7, 94)?;
+    of_list_s(rt, "list S", 7, 70)?;
+    of_list_s(rt, "list S", 7, 69)?;
+    of_list_s(rt, "list S", 7, 0)?;
+    of_list_s(rt, "list S", 7, 101)?;
+    of_list_s(rt, "last not 0", 6, 95)?;
+    of_list_s(rt, "none", 0, 95)?;
     changed(rt)
 }
 
 // The first n records of list S.
-fn of_list_s(rt: &impl Print, label: &[u8], n: usize, rate: u8) -> io::Result<()>
+fn of_list_s(rt: &impl Print, label: &str, n: usize, rate: u8) -> io::Result<()>
     requires { n ≤ 17 }
 {
     show(rt, label, list_s(), n, rate)
 }
 
-fn show(rt: &impl Print, label: &[u8], list: [Band; 17], n: usize, rate: u8) -> io::Result<()>
+fn show(rt: &impl Print, label: &str, list: [Band; 17], n: usize, rate: u8) -> io::Result<()>
     requires { n ≤ 17 }
 {
     let told = asked(list, n, rate);
-    let found = told.found;
-    rt.write_all(label)?;
-    text::byte(rt, rate)?;
-    text::byte(rt, told.check)?;
-    text::byte(rt, found.refusal)?;
-    text::number(rt, found.factor)?;
-    text::end(rt)
+    let check = match told.check {
+        Ok(()) => 0,
+        Err(refusal) => refusal.number(),
+    };
+    let (refusal, factor) = match told.found {
+        Ok(factor) => (0, factor),
+        Err(refusal) => (refusal.number(), 0),
+    };
+    println!(rt; "{label} {rate} {check} {refusal} {factor}")
 }
 
 // The first n records of a list, lent to both.
 fn asked(list: [Band; 17], n: usize, rate: u8) -> Told
     requires { n ≤ 17 }
-    ensures { result ≡ record { check = records_refusal (take n list); found = records_answer (take n list) rate } }
+    ensures { result ≡ record { check = result_by (records_refusal (take n list)) tt; found = records_answer (take n list) rate } }
 {
     let records = &list[..n];
     let check = records::check_bands(records);
     let found = records::factor_of(records, rate);
-    Told {
-        check: check,
-        found: found,
-    }
+    Told { check, found }
 }
 
 // Document 01's list S, and ten records more.
@@ -77,20 +76,17 @@ fn list_s() -> [Band; 17] {
 }
 
 fn band(threshold: i64, factor: i64) -> Band {
-    Band {
-        threshold: threshold,
-        factor: factor,
-    }
+    Band { threshold, factor }
 }
 
 fn changed(rt: &impl Print) -> io::Result<()> {
     let mut list = list_s();
     list[1] = band(95, 8);
-    show(rt, b"equal thresholds", list, 7, 94)?;
+    show(rt, "equal thresholds", list, 7, 94)?;
     let mut many = seventeen();
-    show(rt, b"seventeen", many, 17, 95)?;
+    show(rt, "seventeen", many, 17, 95)?;
     many[15] = band(0, -5);
-    show(rt, b"sixteen", many, 16, 69)
+    show(rt, "sixteen", many, 16, 69)
 }
 
 // Seventeen that fall to 0.

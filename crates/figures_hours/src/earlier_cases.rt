@@ -1,31 +1,31 @@
 // Hours after an hour: the first three windows look back into its last three scores.
-use crate::{hour_cases, joint_cases, readings, text};
+use crate::{hour_cases, joint_cases, readings};
 use hour::Terms;
 use month::Month;
 use std::io;
 use units::{Kilowatts, limits};
 
 pub(crate) fn hours(rt: &impl Print) -> io::Result<()> {
-    text::heading(rt, b"document 02, #102: hours after an hour")?;
+    println!(rt; "document 02, #102: hours after an hour")?;
     each(rt, false)?;
-    text::heading(rt, b"E-dReg hours after an hour")?;
+    println!(rt; "E-dReg hours after an hour")?;
     each(rt, true)
 }
 
 // Zeros in the first seconds: the earlier scores decide.
 fn each(rt: &impl Print, shifting: bool) -> io::Result<()> {
     let none = [0u8; 0];
-    zeros(rt, b"none, a zero", shifting, &none, 1)?;
-    zeros(rt, b"100 100 100, a zero", shifting, &[100, 100, 100], 1)?;
-    zeros(rt, b"90 0 0, a zero", shifting, &[90, 0, 0], 1)?;
-    zeros(rt, b"90 0 0, two zeros", shifting, &[90, 0, 0], 2)?;
-    zeros(rt, b"0 0 90, four zeros", shifting, &[0, 0, 90], 4)
+    zeros(rt, "none, a zero", shifting, &none, 1)?;
+    zeros(rt, "100 100 100, a zero", shifting, &[100, 100, 100], 1)?;
+    zeros(rt, "90 0 0, a zero", shifting, &[90, 0, 0], 1)?;
+    zeros(rt, "90 0 0, two zeros", shifting, &[90, 0, 0], 2)?;
+    zeros(rt, "0 0 90, four zeros", shifting, &[0, 0, 90], 4)
 }
 
 // An hour that scores 100, but 0 in so many first seconds.
 fn zeros(
     rt: &impl Print,
-    label: &[u8],
+    label: &str,
     shifting: bool,
     earlier: &[u8],
     count: usize,
@@ -46,21 +46,21 @@ fn zeros(
 }
 
 pub(crate) fn refused(rt: &impl Print) -> io::Result<()> {
-    text::heading(rt, b"refused earlier scores: 1 first, 4 last")?;
-    attempt(rt, b"two", 10_000, 0, &[100, 100])?;
-    attempt(rt, b"four", 10_000, 0, &[100, 100, 100, 100])?;
+    println!(rt; "refused earlier scores: 1 first, 4 last")?;
+    attempt(rt, "two", 10_000, 0, &[100, 100])?;
+    attempt(rt, "four", 10_000, 0, &[100, 100, 100, 100])?;
     attempt(
         rt,
-        b"two, one of them 101, and capacity 0",
+        "two, one of them 101, and capacity 0",
         0,
         0,
         &[100, 101],
     )?;
-    attempt(rt, b"101, and capacity 0", 0, 0, &[101, 100, 100])?;
-    attempt(rt, b"101", 10_000, 0, &[100, 100, 101])?;
+    attempt(rt, "101, and capacity 0", 0, 0, &[101, 100, 100])?;
+    attempt(rt, "101", 10_000, 0, &[100, 100, 101])?;
     attempt(
         rt,
-        b"101, and a power above",
+        "101, and a power above",
         10_000,
         200_001,
         &[100, 101, 100],
@@ -70,7 +70,7 @@ pub(crate) fn refused(rt: &impl Print) -> io::Result<()> {
 // A dReg and an E-dReg hour on this capacity, with this last power.
 fn attempt(
     rt: &impl Print,
-    label: &[u8],
+    label: &str,
     capacity: i64,
     last: i64,
     earlier: &[u8],
@@ -90,24 +90,24 @@ fn attempt(
 
 // An hour that ends in 0, 90, 0, and one that begins with two zeros.
 pub(crate) fn in_a_row(rt: &impl Print) -> io::Result<()> {
-    text::heading(rt, b"two hours, one after the other")?;
+    println!(rt; "two hours, one after the other")?;
     let none = [0u8; 0];
     let mut powers = [0i64; limits::SECONDS];
     let mut first = [7u8; limits::SECONDS];
     let mut second = [7u8; limits::SECONDS];
     readings::stretch(&mut powers, 3_597, limits::SECONDS, 100_000);
     readings::stretch(&mut powers, 3_598, 3_599, 1_900);
-    still(rt, b"the first", &powers, &none, &mut first)?;
+    still(rt, "the first", &powers, &none, &mut first)?;
     readings::stretch(&mut powers, 0, 2, 100_000);
     readings::stretch(&mut powers, 2, limits::SECONDS, 0);
-    still(rt, b"the second", &powers, &first[3_597..], &mut second)?;
-    still(rt, b"the second, by itself", &powers, &none, &mut second)
+    still(rt, "the second", &powers, &first[3_597..], &mut second)?;
+    still(rt, "the second, by itself", &powers, &none, &mut second)
 }
 
 // A dReg hour at 60 Hz.
 fn still(
     rt: &impl Print,
-    label: &[u8],
+    label: &str,
     powers: &[i64],
     earlier: &[u8],
     scores: &mut [u8],
@@ -126,7 +126,7 @@ fn still(
 }
 
 pub(crate) fn joint(rt: &impl Print) -> io::Result<()> {
-    text::heading(rt, b"joint calls after an hour")?;
+    println!(rt; "joint calls after an hour")?;
     let mut powers = [0i64; limits::SECONDS];
     readings::stretch(&mut powers, 0, 1, 100_000);
     joins(rt, &powers)
@@ -136,17 +136,17 @@ pub(crate) fn joint(rt: &impl Print) -> io::Result<()> {
 fn joins(rt: &impl Print, powers: &[i64]) -> io::Result<()> {
     let none = [0u8; 0];
     let m = joint_cases::opened(30);
-    let m = join(rt, b"none, a zero", powers, &none, m, 10)?;
-    let m = join(rt, b"100 100 100, a zero", powers, &[100, 100, 100], m, 11)?;
-    let m = join(rt, b"two", powers, &[100, 100], m, 12)?;
-    join(rt, b"101, place filled", powers, &[100, 101, 100], m, 10)?;
+    let m = join(rt, "none, a zero", powers, &none, m, 10)?;
+    let m = join(rt, "100 100 100, a zero", powers, &[100, 100, 100], m, 11)?;
+    let m = join(rt, "two", powers, &[100, 100], m, 12)?;
+    join(rt, "101, place filled", powers, &[100, 101, 100], m, 10)?;
     Ok(())
 }
 
 // On day 3.
 fn join(
     rt: &impl Print,
-    label: &[u8],
+    label: &str,
     powers: &[i64],
     earlier: &[u8],
     m: Month,

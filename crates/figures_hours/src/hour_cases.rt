@@ -1,6 +1,6 @@
 // Whole hours of made-up readings.
+use crate::readings;
 use crate::readings::Rule;
-use crate::{readings, text};
 use hour::{Settlement, Shift, Terms};
 use std::io;
 use units::{Kilowatts, Millihertz, limits};
@@ -19,61 +19,55 @@ pub(crate) fn shift_of(targets: [i64; 5]) -> Shift {
     Shift {
         discharge: 200_000,
         charge: 50_000,
-        targets: targets,
+        targets,
     }
 }
 
 // Every field of a settlement.
-pub(crate) fn settlement(rt: &impl Print, label: &[u8], s: Settlement) -> io::Result<()> {
-    let capacity = s.capacity;
-    let performance = s.performance;
-    let quality = s.quality;
-    let energy = s.energy;
-    let amount = s.amount;
-    rt.write_all(label)?;
-    text::byte(rt, s.refusal)?;
-    text::byte(rt, s.rate)?;
-    text::number(rt, s.factor)?;
-    text::number(rt, capacity.0)?;
-    text::number(rt, performance.0)?;
-    text::number(rt, quality.0)?;
-    text::number(rt, energy.0)?;
-    text::number(rt, amount.0)
+pub(crate) fn settlement(rt: &impl Print, label: &str, s: Settlement) -> io::Result<()> {
+    print!(rt;
+        "{label} {} {} {} {}",
+        s.refusal, s.rate, s.factor, s.capacity.0
+    )?;
+    print!(rt;
+        " {} {} {} {}",
+        s.performance.0, s.quality.0, s.energy.0, s.amount.0
+    )
 }
 
 pub(crate) fn dreg_hours(rt: &impl Print) -> io::Result<()> {
-    text::heading(rt, b"dReg hours")?;
+    println!(rt; "dReg hours")?;
     stumbles(rt)?;
     ties(rt)?;
     limits(rt)
 }
 
 pub(crate) fn shift_hours(rt: &impl Print) -> io::Result<()> {
-    text::heading(rt, b"E-dReg hours")?;
+    println!(rt; "E-dReg hours")?;
     shifts(rt)?;
     extremes(rt)
 }
 
 fn stumbles(rt: &impl Print) -> io::Result<()> {
-    level(rt, b"steady", 3_500, 59_900)?;
-    stumble(rt, b"a stumble of three seconds", 1_000, 1_003)?;
-    stumble(rt, b"a stumble of four", 1_000, 1_004)?;
-    stumble(rt, b"four first", 0, 4)?;
-    stumble(rt, b"four last", 3_596, 3_600)?;
-    late(rt, b"in its place", 1_000)?;
-    late(rt, b"a second late", 1_001)?;
-    alternate(rt, b"alternating", 10_000, -10_000)?;
-    alternate(rt, b"alternating, a second late", -10_000, 10_000)
+    level(rt, "steady", 3_500, 59_900)?;
+    stumble(rt, "a stumble of three seconds", 1_000, 1_003)?;
+    stumble(rt, "a stumble of four", 1_000, 1_004)?;
+    stumble(rt, "four first", 0, 4)?;
+    stumble(rt, "four last", 3_596, 3_600)?;
+    late(rt, "in its place", 1_000)?;
+    late(rt, "a second late", 1_001)?;
+    alternate(rt, "alternating", 10_000, -10_000)?;
+    alternate(rt, "alternating, a second late", -10_000, 10_000)
 }
 
 // An hour at one power and one frequency.
-fn level(rt: &impl Print, label: &[u8], power: i64, frequency: i64) -> io::Result<()> {
+fn level(rt: &impl Print, label: &str, power: i64, frequency: i64) -> io::Result<()> {
     let powers = [power; limits::SECONDS];
     let frequencies = [frequency; limits::SECONDS];
     dreg(rt, label, &powers, &frequencies)
 }
 
-fn dreg(rt: &impl Print, label: &[u8], powers: &[i64], frequencies: &[i64]) -> io::Result<()> {
+fn dreg(rt: &impl Print, label: &str, powers: &[i64], frequencies: &[i64]) -> io::Result<()> {
     let none = [0u8; 0];
     dreg_after(rt, label, powers, frequencies, terms(), &none)
 }
@@ -81,7 +75,7 @@ fn dreg(rt: &impl Print, label: &[u8], powers: &[i64], frequencies: &[i64]) -> i
 // The hour after one that ended in these scores.
 pub(crate) fn dreg_after(
     rt: &impl Print,
-    label: &[u8],
+    label: &str,
     powers: &[i64],
     frequencies: &[i64],
     terms: Terms,
@@ -103,7 +97,7 @@ pub(crate) fn dreg_after(
 // An hour on list S: its settlement, then a check sum of the run that it leaves.
 pub(crate) fn dreg_work(
     rt: &impl Print,
-    label: &[u8],
+    label: &str,
     powers: &[i64],
     frequencies: &[i64],
     terms: Terms,
@@ -124,12 +118,11 @@ pub(crate) fn dreg_work(
         scores,
     );
     settlement(rt, label, s)?;
-    text::count(rt, readings::score_sum(scores))?;
-    text::end(rt)
+    println!(rt; " {}", readings::score_sum(scores))
 }
 
 // A steady hour but for a stretch at another power.
-fn stumble(rt: &impl Print, label: &[u8], from: usize, to: usize) -> io::Result<()> {
+fn stumble(rt: &impl Print, label: &str, from: usize, to: usize) -> io::Result<()> {
     let mut powers = [3_500i64; limits::SECONDS];
     let frequencies = [59_900i64; limits::SECONDS];
     readings::stretch(&mut powers, from, to, 4_500);
@@ -137,7 +130,7 @@ fn stumble(rt: &impl Print, label: &[u8], from: usize, to: usize) -> io::Result<
 }
 
 // The frequency falls, and the power of the second after each reading is judged by it.
-fn late(rt: &impl Print, label: &[u8], from: usize) -> io::Result<()> {
+fn late(rt: &impl Print, label: &str, from: usize) -> io::Result<()> {
     let mut powers = [0i64; limits::SECONDS];
     let mut frequencies = [60_000i64; limits::SECONDS];
     readings::stretch(&mut frequencies, from, 1_004, 59_750);
@@ -146,7 +139,7 @@ fn late(rt: &impl Print, label: &[u8], from: usize) -> io::Result<()> {
 }
 
 // Frequency and power change every second: a power that is judged by another second's frequency scores 0.
-fn alternate(rt: &impl Print, label: &[u8], even: i64, odd: i64) -> io::Result<()> {
+fn alternate(rt: &impl Print, label: &str, even: i64, odd: i64) -> io::Result<()> {
     let mut powers = [0i64; limits::SECONDS];
     let mut frequencies = [0i64; limits::SECONDS];
     readings::fill(
@@ -161,20 +154,20 @@ fn alternate(rt: &impl Print, label: &[u8], even: i64, odd: i64) -> io::Result<(
 
 // The curve's ties: 31 and 22 percent at 59,920, -22 and -31 percent at 60,080.
 fn ties(rt: &impl Print) -> io::Result<()> {
-    level(rt, b"tie 59,920 above", 3_100, 59_920)?;
-    level(rt, b"tie 59,920 past", 3_200, 59_920)?;
-    level(rt, b"tie 59,920 below", 2_100, 59_920)?;
-    level(rt, b"tie 60,080 above", -2_200, 60_080)?;
-    level(rt, b"tie 60,080 past", -2_100, 60_080)?;
-    level(rt, b"tie 60,080 below", -3_200, 60_080)
+    level(rt, "tie 59,920 above", 3_100, 59_920)?;
+    level(rt, "tie 59,920 past", 3_200, 59_920)?;
+    level(rt, "tie 59,920 below", 2_100, 59_920)?;
+    level(rt, "tie 60,080 above", -2_200, 60_080)?;
+    level(rt, "tie 60,080 past", -2_100, 60_080)?;
+    level(rt, "tie 60,080 below", -3_200, 60_080)
 }
 
 fn limits(rt: &impl Print) -> io::Result<()> {
-    level(rt, b"most power", 200_000, 55_000)?;
-    level(rt, b"least power", -200_000, 65_000)?;
-    level(rt, b"a power above", 200_001, 60_000)?;
-    level(rt, b"a power below", -200_001, 60_000)?;
-    level(rt, b"a frequency below", 0, 54_999)
+    level(rt, "most power", 200_000, 55_000)?;
+    level(rt, "least power", -200_000, 65_000)?;
+    level(rt, "a power above", 200_001, 60_000)?;
+    level(rt, "a power below", -200_001, 60_000)?;
+    level(rt, "a frequency below", 0, 54_999)
 }
 
 fn shifts(rt: &impl Print) -> io::Result<()> {
@@ -182,17 +175,17 @@ fn shifts(rt: &impl Print) -> io::Result<()> {
     let discharging = [-3_000, 3_000, 4_000, 2_001, 5_000];
     let both = [100, 4_000, -4_000, 0, 7];
     let none = [0, 0, 0, 0, 0];
-    follow(rt, b"charging", charging, charging)?;
-    follow(rt, b"discharging", discharging, discharging)?;
-    follow(rt, b"both", both, both)?;
-    follow(rt, b"another plan", charging, both)?;
-    follow(rt, b"no plan", both, none)?;
-    waver(rt, b"wavering", discharging, discharging)?;
-    waver(rt, b"wavering, another plan", both, discharging)
+    follow(rt, "charging", charging, charging)?;
+    follow(rt, "discharging", discharging, discharging)?;
+    follow(rt, "both", both, both)?;
+    follow(rt, "another plan", charging, both)?;
+    follow(rt, "no plan", both, none)?;
+    waver(rt, "wavering", discharging, discharging)?;
+    waver(rt, "wavering, another plan", both, discharging)
 }
 
 // Powers that follow some targets while others are scheduled, at a steady frequency and over the whole curve.
-fn follow(rt: &impl Print, label: &[u8], followed: [i64; 5], planned: [i64; 5]) -> io::Result<()> {
+fn follow(rt: &impl Print, label: &str, followed: [i64; 5], planned: [i64; 5]) -> io::Result<()> {
     let mut powers = [0i64; limits::SECONDS];
     let frequencies = [60_000i64; limits::SECONDS];
     readings::follow(&mut powers, &followed);
@@ -201,7 +194,7 @@ fn follow(rt: &impl Print, label: &[u8], followed: [i64; 5], planned: [i64; 5]) 
 
 fn shift(
     rt: &impl Print,
-    label: &[u8],
+    label: &str,
     powers: &[i64],
     frequencies: &[i64],
     terms: Terms,
@@ -213,7 +206,7 @@ fn shift(
 
 pub(crate) fn shift_after(
     rt: &impl Print,
-    label: &[u8],
+    label: &str,
     powers: &[i64],
     frequencies: &[i64],
     terms: Terms,
@@ -237,7 +230,7 @@ pub(crate) fn shift_after(
 // The same for E-dReg.
 pub(crate) fn work(
     rt: &impl Print,
-    label: &[u8],
+    label: &str,
     powers: &[i64],
     frequencies: &[i64],
     terms: Terms,
@@ -260,11 +253,10 @@ pub(crate) fn work(
         scores,
     );
     settlement(rt, label, s)?;
-    text::count(rt, readings::score_sum(scores))?;
-    text::end(rt)
+    println!(rt; " {}", readings::score_sum(scores))
 }
 
-fn waver(rt: &impl Print, label: &[u8], followed: [i64; 5], planned: [i64; 5]) -> io::Result<()> {
+fn waver(rt: &impl Print, label: &str, followed: [i64; 5], planned: [i64; 5]) -> io::Result<()> {
     let mut powers = [0i64; limits::SECONDS];
     let mut frequencies = [0i64; limits::SECONDS];
     readings::follow(&mut powers, &followed);
@@ -273,15 +265,15 @@ fn waver(rt: &impl Print, label: &[u8], followed: [i64; 5], planned: [i64; 5]) -
 }
 
 fn extremes(rt: &impl Print) -> io::Result<()> {
-    extreme(rt, b"most", 200_000, 55_000, 100_000)?;
-    extreme(rt, b"most, the other way", 200_000, 55_000, -100_000)?;
-    extreme(rt, b"least", -200_000, 65_000, -100_000)?;
-    extreme(rt, b"least, the other way", -200_000, 65_000, 100_000)
+    extreme(rt, "most", 200_000, 55_000, 100_000)?;
+    extreme(rt, "most, the other way", 200_000, 55_000, -100_000)?;
+    extreme(rt, "least", -200_000, 65_000, -100_000)?;
+    extreme(rt, "least, the other way", -200_000, 65_000, 100_000)
 }
 
 fn extreme(
     rt: &impl Print,
-    label: &[u8],
+    label: &str,
     power: i64,
     frequency: i64,
     target: i64,

@@ -1,22 +1,22 @@
 // The joint call: an hour that is worked out and posted.
-use crate::{hour_cases, readings, text};
+use crate::{hour_cases, readings};
 use month::Month;
 use std::io;
-use units::{Millihertz, limits};
+use units::{Dollars, Millihertz, Refusal, limits};
 
 pub(crate) fn joint(rt: &impl Print) -> io::Result<()> {
-    text::heading(rt, b"joint calls")?;
+    println!(rt; "joint calls")?;
     let mut powers = [0i64; limits::SECONDS];
     let frequencies = [60_000i64; limits::SECONDS];
     let m = posts(rt, &powers, &frequencies)?;
     readings::stretch(&mut powers, 3 * limits::QUARTER, limits::SECONDS, 900);
     let m = closes(rt, &powers, &frequencies, m)?;
-    join(rt, b"no month", &powers, &frequencies, 0, opened(27), 3, 12)?;
+    join(rt, "no month", &powers, &frequencies, 0, opened(27), 3, 12)?;
     forged(rt, &powers, &frequencies)?;
     readings::stretch(&mut powers, 0, 1, -200_001);
     join(
         rt,
-        b"closed, a power below",
+        "closed, a power below",
         &powers,
         &frequencies,
         0,
@@ -30,13 +30,13 @@ pub(crate) fn joint(rt: &impl Print) -> io::Result<()> {
 // A place that fills, and what the ledger or the hour refuses.
 fn posts(rt: &impl Print, powers: &[i64], frequencies: &[i64]) -> io::Result<Month> {
     let m = opened(30);
-    let m = join(rt, b"posted", powers, frequencies, 0, m, 3, 10)?;
-    let m = join(rt, b"place filled", powers, frequencies, 0, m, 3, 10)?;
-    let m = join(rt, b"day 31", powers, frequencies, 0, m, 31, 10)?;
-    let m = join(rt, b"hour 24", powers, frequencies, 0, m, 3, 24)?;
+    let m = join(rt, "posted", powers, frequencies, 0, m, 3, 10)?;
+    let m = join(rt, "place filled", powers, frequencies, 0, m, 3, 10)?;
+    let m = join(rt, "day 31", powers, frequencies, 0, m, 31, 10)?;
+    let m = join(rt, "hour 24", powers, frequencies, 0, m, 3, 24)?;
     join(
         rt,
-        b"a target above, place filled",
+        "a target above, place filled",
         powers,
         frequencies,
         100_001,
@@ -47,13 +47,19 @@ fn posts(rt: &impl Print, powers: &[i64], frequencies: &[i64]) -> io::Result<Mon
 }
 
 pub(crate) fn opened(days: u8) -> Month {
-    let b = Month::open(days);
-    b.month
+    Month::open(days).unwrap_or(Month {
+        days: 0,
+        closed: false,
+        basic: Dollars(0),
+        excess: Dollars(0),
+        marks: [false; Month::PLACES],
+        amounts: [0; Month::PLACES],
+    })
 }
 
 fn join(
     rt: &impl Print,
-    label: &[u8],
+    label: &str,
     powers: &[i64],
     frequencies: &[i64],
     target: i64,
@@ -80,7 +86,7 @@ fn join(
 // The settlement, then the ledger after it.
 pub(crate) fn join_after(
     rt: &impl Print,
-    label: &[u8],
+    label: &str,
     powers: &[i64],
     frequencies: &[i64],
     reference: i64,
@@ -106,46 +112,45 @@ pub(crate) fn join_after(
         day,
         hour,
     );
-    let after = j.month;
     hour_cases::settlement(rt, label, j.hour)?;
-    ledger(rt, after, day, hour)?;
-    Ok(after)
+    ledger(rt, j.month, day, hour)?;
+    Ok(j.month)
 }
 
 // The hour's place, the total and the standing hours.
 pub(crate) fn ledger(rt: &impl Print, m: Month, day: u8, hour: u8) -> io::Result<()> {
-    let h = m.hour(day, hour);
-    let amount = h.amount;
-    let t = m.total();
-    let total = t.amount;
-    let s = m.standing();
-    text::byte(rt, h.refusal)?;
-    text::number(rt, amount.0)?;
-    text::byte(rt, t.refusal)?;
-    text::number(rt, total.0)?;
-    text::byte(rt, s.refusal)?;
-    text::count(rt, s.standing as u64)?;
-    text::end(rt)
+    told(rt, m.hour(day, hour))?;
+    told(rt, m.total())?;
+    match m.standing() {
+        Ok(standing) => println!(rt; " 0 {standing}"),
+        Err(refusal) => println!(rt; " {} 0", refusal.number()),
+    }
+}
+
+// A read-out's refusal, then its amount, 0 beside a refusal.
+pub(crate) fn told(rt: &impl Print, answer: Result<Dollars, Refusal>) -> io::Result<()> {
+    match answer {
+        Ok(amount) => print!(rt; " 0 {}", amount.0),
+        Err(refusal) => print!(rt; " {} 0", refusal.number()),
+    }
 }
 
 // Hours with energy service, a withdrawn hour and a closed month.
 fn closes(rt: &impl Print, powers: &[i64], frequencies: &[i64], m: Month) -> io::Result<Month> {
-    let m = join(rt, b"another hour", powers, frequencies, 5, m, 3, 11)?;
+    let m = join(rt, "another hour", powers, frequencies, 5, m, 3, 11)?;
     let m = withdrawn(m, 3, 10);
-    let m = join(rt, b"posted again", powers, frequencies, -5, m, 3, 10)?;
+    let m = join(rt, "posted again", powers, frequencies, -5, m, 3, 10)?;
     let m = closed(m);
-    join(rt, b"closed", powers, frequencies, 0, m, 3, 12)?;
-    join(rt, b"closed, day 0", powers, frequencies, 0, m, 0, 12)
+    join(rt, "closed", powers, frequencies, 0, m, 3, 12)?;
+    join(rt, "closed, day 0", powers, frequencies, 0, m, 0, 12)
 }
 
 fn withdrawn(m: Month, day: u8, hour: u8) -> Month {
-    let b = m.withdraw(day, hour);
-    b.month
+    m.withdraw(day, hour).unwrap_or(m)
 }
 
 fn closed(m: Month) -> Month {
-    let b = m.close();
-    b.month
+    m.close().unwrap_or(m)
 }
 
 fn forged(rt: &impl Print, powers: &[i64], frequencies: &[i64]) -> io::Result<()> {
@@ -153,7 +158,7 @@ fn forged(rt: &impl Print, powers: &[i64], frequencies: &[i64]) -> io::Result<()
     m.amounts[0] = 1;
     join(
         rt,
-        b"a ledger that no run of calls hands back",
+        "a ledger that no run of calls hands back",
         powers,
         frequencies,
         0,

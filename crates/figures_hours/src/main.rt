@@ -13,7 +13,6 @@ mod readings;
 mod refused_cases;
 mod sreg_cases;
 mod sreg_refused;
-mod text;
 
 use std::io;
 

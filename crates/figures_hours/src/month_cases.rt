@@ -1,6 +1,5 @@
 // Document 001's worked months, hour by hour.
-use crate::{fees_cases, text};
-use bands::Factored;
+use crate::{fees_cases, joint_cases};
 use month::Month;
 use std::io;
 use units::{Dollars, Kilowatts, Megawatts};
@@ -19,7 +18,7 @@ struct Award {
 
 // Document 001, table 4.
 pub(crate) fn march(rt: &impl Print) -> io::Result<()> {
-    text::heading(rt, b"document 001, table 4: a dReg month")?;
+    println!(rt; "document 001, table 4: a dReg month")?;
     let m = opened(31);
     let m = dreg(rt, m, 3, 10, 10, 43_000, 96)?;
     let m = dreg(rt, m, 3, 11, 10, 43_500, 94)?;
@@ -35,7 +34,7 @@ pub(crate) fn march(rt: &impl Print) -> io::Result<()> {
 
 // Document 001, table 6.
 pub(crate) fn april(rt: &impl Print) -> io::Result<()> {
-    text::heading(rt, b"document 001, table 6: an E-dReg month")?;
+    println!(rt; "document 001, table 6: an E-dReg month")?;
     let m = opened(30);
     let m = april_hour(rt, m, 0, 42_000, 99, -3_500, -3_000)?;
     let m = april_hour(rt, m, 1, 43_000, 94, -3_000, -3_000)?;
@@ -52,7 +51,7 @@ pub(crate) fn april(rt: &impl Print) -> io::Result<()> {
 
 // Document 001, table 11: its second day on whole hourly amounts.
 pub(crate) fn january(rt: &impl Print) -> io::Result<()> {
-    text::heading(rt, b"document 001, table 11: hours are rounded, then added")?;
+    println!(rt; "document 001, table 11: hours are rounded, then added")?;
     let m = opened(31);
     let m = post(m, 4, 18, -31_817);
     let m = post(m, 4, 19, 10_325);
@@ -65,8 +64,7 @@ pub(crate) fn january(rt: &impl Print) -> io::Result<()> {
 }
 
 fn opened(days: u8) -> Month {
-    let b = Month::open(days);
-    b.month
+    joint_cases::opened(days)
 }
 
 // A dReg hour at 350 dollars performance price.
@@ -80,12 +78,12 @@ fn dreg(
     rate: u8,
 ) -> io::Result<Month> {
     let award = Award {
-        day: day,
-        hour: hour,
-        capacity: capacity,
-        clearing: clearing,
+        day,
+        hour,
+        capacity,
+        clearing,
         performance: 35_000,
-        rate: rate,
+        rate,
     };
     settle(rt, m, award, Dollars(0))
 }
@@ -95,75 +93,61 @@ fn settle(rt: &impl Print, m: Month, award: Award, energy: Dollars) -> io::Resul
     let size = kilowatts(award.capacity);
     let capacity = fee_of(award.clearing, size);
     let performance = fee_of(award.performance, size);
-    let f = list_s(award.rate);
-    let factor = f.factor;
+    let factor = list_s(award.rate);
     let quality = quality_of(capacity, performance, factor);
     let amount = amount_of(quality, energy);
-    let b = m.post(award.day, award.hour, amount);
-    rt.write_all(b"hour")?;
-    text::byte(rt, award.hour)?;
-    text::number(rt, capacity.0)?;
-    text::number(rt, performance.0)?;
-    text::byte(rt, award.rate)?;
-    text::number(rt, factor)?;
-    text::number(rt, energy.0)?;
-    text::number(rt, amount.0)?;
-    text::byte(rt, b.refusal)?;
-    text::end(rt)?;
-    Ok(b.month)
+    let (refusal, after) = match m.post(award.day, award.hour, amount) {
+        Ok(next) => (0, next),
+        Err(refusal) => (refusal.number(), m),
+    };
+    print!(rt;
+        "hour {} {} {} {}",
+        award.hour, capacity.0, performance.0, award.rate
+    )?;
+    println!(rt; " {factor} {} {} {refusal}", energy.0, amount.0)?;
+    Ok(after)
 }
 
 fn kilowatts(figure: i64) -> Kilowatts {
-    let c = units::to_kilowatts(Megawatts(figure));
-    c.power
+    units::to_kilowatts(Megawatts(figure)).unwrap_or(Kilowatts(0))
 }
 
 fn fee_of(price: i64, capacity: Kilowatts) -> Dollars {
-    let c = fees::fee(price, capacity);
-    c.dollars
+    fees::fee(price, capacity).dollars
 }
 
 // Document 01's list S.
-fn list_s(rate: u8) -> Factored {
+fn list_s(rate: u8) -> i64 {
     let thresholds = [95i64, 94, 93, 92, 91, 70, 0];
     let factors = [10i64, 8, 6, 4, 2, 0, -10];
-    bands::factor(&thresholds, &factors, rate)
+    bands::factor(&thresholds, &factors, rate).unwrap_or(0)
 }
 
 fn quality_of(capacity: Dollars, performance: Dollars, factor: i64) -> Dollars {
-    let c = fees::quality_part(capacity, performance, factor);
-    c.dollars
+    fees::quality_part(capacity, performance, factor).dollars
 }
 
 // The quality part and the energy service fee together.
 fn amount_of(quality: Dollars, energy: Dollars) -> Dollars {
-    let parts = [quality.0, energy.0];
-    let s = whole::sum(&parts);
-    let amount = s.sum;
-    Dollars(amount)
+    Dollars(whole::sum(&[quality.0, energy.0]).unwrap_or(0))
 }
 
 fn day(rt: &impl Print, m: Month, day: u8) -> io::Result<()> {
-    let d = m.day(day);
-    let sum = d.amount;
-    rt.write_all(b"day")?;
-    text::byte(rt, day)?;
-    text::byte(rt, d.refusal)?;
-    text::number(rt, sum.0)?;
-    text::end(rt)
+    print!(rt; "day")?;
+    print!(rt; " {}", day)?;
+    joint_cases::told(rt, m.day(day))?;
+    println!(rt; "")
 }
 
 // A table's loss fee, which is one figure there, as the basic fee; then the month total.
 fn total(rt: &impl Print, m: Month, fee: i64) -> io::Result<()> {
-    let b = m.set_basic_fee(Dollars(fee));
-    let after = b.month;
-    let t = after.total();
-    let sum = t.amount;
-    rt.write_all(b"total")?;
-    text::byte(rt, b.refusal)?;
-    text::byte(rt, t.refusal)?;
-    text::number(rt, sum.0)?;
-    text::end(rt)
+    let (refusal, after) = match m.set_basic_fee(Dollars(fee)) {
+        Ok(next) => (0, next),
+        Err(refusal) => (refusal.number(), m),
+    };
+    print!(rt; "total {refusal}")?;
+    joint_cases::told(rt, after.total())?;
+    println!(rt; "")
 }
 
 // An hour of 12 April: 10 MW at 475 dollars performance price, with the hour's mean power and target in kW.
@@ -179,11 +163,11 @@ fn april_hour(
     let c = fees_cases::steady_energy(mean, target);
     let award = Award {
         day: 12,
-        hour: hour,
+        hour,
         capacity: 10,
-        clearing: clearing,
+        clearing,
         performance: 47_500,
-        rate: rate,
+        rate,
     };
     settle(rt, m, award, c.dollars)
 }
@@ -198,6 +182,5 @@ fn april_rest(rt: &impl Print, m: Month, from: u8, to: u8, clearing: i64) -> io:
 }
 
 fn post(m: Month, day: u8, hour: u8, amount: i64) -> Month {
-    let b = m.post(day, hour, Dollars(amount));
-    b.month
+    m.post(day, hour, Dollars(amount)).unwrap_or(m)
 }

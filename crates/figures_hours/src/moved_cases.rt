@@ -1,6 +1,6 @@
 // Hours by a moved reference.
 use crate::readings::Rule;
-use crate::{hour_cases, joint_cases, readings, text};
+use crate::{hour_cases, joint_cases, readings};
 use hour::Terms;
 use month::Month;
 use std::io;
@@ -11,21 +11,21 @@ const TARGETS: [i64; 5] = [-3_000, 3_000, 4_000, 2_001, 5_000];
 // Frequencies over the whole curve: an hour whose frequencies all move with the reference scores as the old one, and
 // one whose frequencies stay does not.
 pub(crate) fn hours(rt: &impl Print) -> io::Result<()> {
-    text::heading(rt, b"document 02, #107: hours by a moved reference")?;
-    waver(rt, b"dReg, as it is", false, 59_700, 60_000)?;
-    waver(rt, b"dReg, moved by -500", false, 59_200, 59_500)?;
-    waver(rt, b"dReg, moved by 300", false, 60_000, 60_300)?;
-    waver(rt, b"dReg, the reference alone", false, 59_700, 59_500)?;
-    waver(rt, b"E-dReg, as it is", true, 59_700, 60_000)?;
-    waver(rt, b"E-dReg, moved by -500", true, 59_200, 59_500)?;
-    waver(rt, b"E-dReg, moved by 500", true, 60_200, 60_500)?;
-    waver(rt, b"E-dReg, the reference alone", true, 59_700, 60_500)
+    println!(rt; "document 02, #107: hours by a moved reference")?;
+    waver(rt, "dReg, as it is", false, 59_700, 60_000)?;
+    waver(rt, "dReg, moved by -500", false, 59_200, 59_500)?;
+    waver(rt, "dReg, moved by 300", false, 60_000, 60_300)?;
+    waver(rt, "dReg, the reference alone", false, 59_700, 59_500)?;
+    waver(rt, "E-dReg, as it is", true, 59_700, 60_000)?;
+    waver(rt, "E-dReg, moved by -500", true, 59_200, 59_500)?;
+    waver(rt, "E-dReg, moved by 500", true, 60_200, 60_500)?;
+    waver(rt, "E-dReg, the reference alone", true, 59_700, 60_500)
 }
 
 // An hour that wavers over 601 millihertz, from the first on; what is shifted follows its plan.
 fn waver(
     rt: &impl Print,
-    label: &[u8],
+    label: &str,
     shifting: bool,
     first: u32,
     reference: i64,
@@ -42,7 +42,7 @@ fn waver(
 
 fn over(
     rt: &impl Print,
-    label: &[u8],
+    label: &str,
     shifting: bool,
     powers: &[i64],
     first: u32,
@@ -57,7 +57,7 @@ fn over(
 // A dReg or an E-dReg hour.
 fn around(
     rt: &impl Print,
-    label: &[u8],
+    label: &str,
     shifting: bool,
     powers: &[i64],
     frequencies: &[i64],
@@ -94,21 +94,21 @@ fn around(
 }
 
 pub(crate) fn refused(rt: &impl Print) -> io::Result<()> {
-    text::heading(rt, b"refused references: 19 after 2 and before 3")?;
-    attempt(rt, b"least", 10_000, 59_500, 43_000, 0)?;
-    attempt(rt, b"most", 10_000, 60_500, 43_000, 0)?;
-    attempt(rt, b"below", 10_000, 59_499, 43_000, 0)?;
-    attempt(rt, b"above", 10_000, 60_501, 43_000, 0)?;
-    attempt(rt, b"and capacity 0", 0, 60_501, 43_000, 0)?;
-    attempt(rt, b"and a price", 10_000, 60_501, -1, 0)?;
-    attempt(rt, b"and a power", 10_000, 60_501, 43_000, 200_001)?;
-    attempt(rt, b"i64", 10_000, i64::MIN, 43_000, 0)
+    println!(rt; "refused references: 19 after 2 and before 3")?;
+    attempt(rt, "least", 10_000, 59_500, 43_000, 0)?;
+    attempt(rt, "most", 10_000, 60_500, 43_000, 0)?;
+    attempt(rt, "below", 10_000, 59_499, 43_000, 0)?;
+    attempt(rt, "above", 10_000, 60_501, 43_000, 0)?;
+    attempt(rt, "and capacity 0", 0, 60_501, 43_000, 0)?;
+    attempt(rt, "and a price", 10_000, 60_501, -1, 0)?;
+    attempt(rt, "and a power", 10_000, 60_501, 43_000, 200_001)?;
+    attempt(rt, "i64", 10_000, i64::MIN, 43_000, 0)
 }
 
 // A dReg and an E-dReg hour with this capacity, reference, clearing price and last power.
 fn attempt(
     rt: &impl Print,
-    label: &[u8],
+    label: &str,
     capacity: i64,
     reference: i64,
     clearing: i64,
@@ -119,7 +119,7 @@ fn attempt(
     readings::stretch(&mut powers, limits::SECONDS - 1, limits::SECONDS, last);
     let terms = Terms {
         capacity: Kilowatts(capacity),
-        clearing: clearing,
+        clearing,
         performance: 35_000,
     };
     around(rt, label, false, &powers, &frequencies, terms, reference)?;
@@ -128,20 +128,20 @@ fn attempt(
 
 // On day 3.
 pub(crate) fn joint(rt: &impl Print) -> io::Result<()> {
-    text::heading(rt, b"joint calls by a moved reference")?;
+    println!(rt; "joint calls by a moved reference")?;
     let m = joint_cases::opened(30);
-    let m = join(rt, b"as it is", 59_900, 60_000, m, 10)?;
-    let m = join(rt, b"moved by -500", 59_400, 59_500, m, 11)?;
-    let m = join(rt, b"the reference alone", 59_900, 59_500, m, 12)?;
-    let m = join(rt, b"above", 59_900, 60_501, m, 13)?;
-    join(rt, b"above, place filled", 59_900, 60_501, m, 10)?;
+    let m = join(rt, "as it is", 59_900, 60_000, m, 10)?;
+    let m = join(rt, "moved by -500", 59_400, 59_500, m, 11)?;
+    let m = join(rt, "the reference alone", 59_900, 59_500, m, 12)?;
+    let m = join(rt, "above", 59_900, 60_501, m, 13)?;
+    join(rt, "above, place filled", 59_900, 60_501, m, 10)?;
     Ok(())
 }
 
 // A steady hour at 35 percent.
 fn join(
     rt: &impl Print,
-    label: &[u8],
+    label: &str,
     frequency: i64,
     reference: i64,
     m: Month,

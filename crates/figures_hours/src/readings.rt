@@ -15,9 +15,8 @@ pub(crate) enum Rule {
 
 // The rule's values from a place on, up to another or the run's end.
 pub(crate) fn fill(run: &mut [i64], from: usize, to: usize, rule: Rule) {
-    for i in from..run.len() {
-        let old = run[i];
-        run[i] = chosen(i < to, value_at(rule, i), old);
+    for (i, place) in run.iter_mut().enumerate().take(to).skip(from) {
+        *place = value_at(rule, i);
     }
 }
 
@@ -28,26 +27,19 @@ pub(crate) fn stretch(run: &mut [i64], from: usize, to: usize, value: i64) {
 
 // Another value at one place.
 pub(crate) fn put(run: &mut [i64], place: usize, value: i64) {
-    if place < run.len() {
-        run[place] = value;
+    if let Some(old) = run.get_mut(place) {
+        *old = value;
     }
 }
 
 // The planned transfer of each second of an hour.
 pub(crate) fn follow(run: &mut [i64], targets: &[i64]) {
-    ramp::plan(targets, run);
+    let _ = ramp::plan(targets, run);
 }
 
 pub(crate) fn score_sum(run: &[u8]) -> u64 {
-    let mut sum = 0;
-    for score in run {
-        sum = with_score(sum, *score);
-    }
-    sum
-}
-
-fn chosen(taken: bool, value: i64, old: i64) -> i64 {
-    if taken { value } else { old }
+    run.iter()
+        .fold(0, |sum, score| mixed(sum, u64::from(*score)))
 }
 
 fn value_at(rule: Rule, i: usize) -> i64 {
@@ -74,10 +66,6 @@ fn consumed(second: usize) -> i64 {
         751..=760 => 0,
         _ => 20_000,
     }
-}
-
-fn with_score(sum: u64, score: u8) -> u64 {
-    mixed(sum, score as u64)
 }
 
 // The sum with one number more; the order of the numbers counts.

@@ -1,14 +1,11 @@
 // Hours with faults: which refusal comes first.
-use crate::{hour_cases, readings, text};
+use crate::{hour_cases, readings};
 use hour::{Shift, Terms};
 use std::io;
 use units::{Kilowatts, Millihertz, limits};
 
 pub(crate) fn hours(rt: &impl Print) -> io::Result<()> {
-    text::heading(
-        rt,
-        b"refused hours by 60,000: 1, 2, 3, 5, 10, 4 in this order",
-    )?;
+    println!(rt; "refused hours by 60,000: 1, 2, 3, 5, 10, 4 in this order")?;
     let mut powers = [0i64; limits::SECONDS];
     let mut frequencies = [0i64; limits::SECONDS];
     faults(rt, &mut powers, &mut frequencies)
@@ -27,10 +24,10 @@ fn faults(rt: &impl Print, powers: &mut [i64], frequencies: &mut [i64]) -> io::R
 
 // Nothing is refused.
 fn at_the_limits(rt: &impl Print, powers: &[i64], frequencies: &[i64]) -> io::Result<()> {
-    attempt(rt, b"none", powers, frequencies, 10_000, 50_000, 10, 0)?;
+    attempt(rt, "none", powers, frequencies, 10_000, 50_000, 10, 0)?;
     attempt(
         rt,
-        b"at the limits",
+        "at the limits",
         powers,
         frequencies,
         100_000,
@@ -40,7 +37,7 @@ fn at_the_limits(rt: &impl Print, powers: &[i64], frequencies: &[i64]) -> io::Re
     )?;
     attempt(
         rt,
-        b"least factor",
+        "least factor",
         powers,
         frequencies,
         10_000,
@@ -48,22 +45,13 @@ fn at_the_limits(rt: &impl Print, powers: &[i64], frequencies: &[i64]) -> io::Re
         -240,
         0,
     )?;
-    attempt(
-        rt,
-        b"least capacity",
-        powers,
-        frequencies,
-        1,
-        0,
-        10,
-        100_000,
-    )
+    attempt(rt, "least capacity", powers, frequencies, 1, 0, 10, 100_000)
 }
 
 // An hour of 7 in each place of the lent run, with the capacity, charge price, factor and last target as given.
 fn attempt(
     rt: &impl Print,
-    label: &[u8],
+    label: &str,
     powers: &[i64],
     frequencies: &[i64],
     capacity: i64,
@@ -79,7 +67,7 @@ fn attempt(
     };
     let shift = Shift {
         discharge: 200_000,
-        charge: charge,
+        charge,
         targets: [0, 0, 0, 0, target],
     };
     worked(
@@ -97,7 +85,7 @@ fn attempt(
 // The settlement, then a check sum of the run.
 fn worked(
     rt: &impl Print,
-    label: &[u8],
+    label: &str,
     powers: &[i64],
     frequencies: &[i64],
     terms: Terms,
@@ -120,16 +108,15 @@ fn worked(
         scores,
     );
     hour_cases::settlement(rt, label, s)?;
-    text::count(rt, readings::score_sum(scores))?;
-    text::end(rt)
+    println!(rt; " {}", readings::score_sum(scores))
 }
 
 // One fault at a time, in the capacity and the prices; then in the bands and the targets.
 fn single(rt: &impl Print, powers: &[i64], frequencies: &[i64]) -> io::Result<()> {
-    attempt(rt, b"capacity 0", powers, frequencies, 0, 50_000, 10, 0)?;
+    attempt(rt, "capacity 0", powers, frequencies, 0, 50_000, 10, 0)?;
     attempt(
         rt,
-        b"capacity above",
+        "capacity above",
         powers,
         frequencies,
         100_001,
@@ -139,7 +126,7 @@ fn single(rt: &impl Print, powers: &[i64], frequencies: &[i64]) -> io::Result<()
     )?;
     attempt(
         rt,
-        b"price above",
+        "price above",
         powers,
         frequencies,
         10_000,
@@ -147,7 +134,7 @@ fn single(rt: &impl Print, powers: &[i64], frequencies: &[i64]) -> io::Result<()
         10,
         0,
     )?;
-    attempt(rt, b"price below", powers, frequencies, 10_000, -1, 10, 0)
+    attempt(rt, "price below", powers, frequencies, 10_000, -1, 10, 0)
 }
 
 fn single_in_bands_and_targets(
@@ -155,10 +142,10 @@ fn single_in_bands_and_targets(
     powers: &[i64],
     frequencies: &[i64],
 ) -> io::Result<()> {
-    attempt(rt, b"factor 11", powers, frequencies, 10_000, 50_000, 11, 0)?;
+    attempt(rt, "factor 11", powers, frequencies, 10_000, 50_000, 11, 0)?;
     attempt(
         rt,
-        b"target above",
+        "target above",
         powers,
         frequencies,
         10_000,
@@ -168,7 +155,7 @@ fn single_in_bands_and_targets(
     )?;
     attempt(
         rt,
-        b"target below",
+        "target below",
         powers,
         frequencies,
         10_000,
@@ -183,7 +170,7 @@ fn short_scores(rt: &impl Print, powers: &[i64], frequencies: &[i64]) -> io::Res
     let shift = hour_cases::shift_of([0, 0, 0, 0, 0]);
     worked(
         rt,
-        b"3,599 scores",
+        "3,599 scores",
         powers,
         frequencies,
         hour_cases::terms(),
@@ -197,7 +184,7 @@ fn short_scores(rt: &impl Print, powers: &[i64], frequencies: &[i64]) -> io::Res
 fn several(rt: &impl Print, powers: &[i64], frequencies: &[i64]) -> io::Result<()> {
     attempt(
         rt,
-        b"a power above",
+        "a power above",
         powers,
         frequencies,
         10_000,
@@ -207,7 +194,7 @@ fn several(rt: &impl Print, powers: &[i64], frequencies: &[i64]) -> io::Result<(
     )?;
     attempt(
         rt,
-        b"and a target",
+        "and a target",
         powers,
         frequencies,
         10_000,
@@ -217,7 +204,7 @@ fn several(rt: &impl Print, powers: &[i64], frequencies: &[i64]) -> io::Result<(
     )?;
     attempt(
         rt,
-        b"and a factor",
+        "and a factor",
         powers,
         frequencies,
         10_000,
@@ -227,7 +214,7 @@ fn several(rt: &impl Print, powers: &[i64], frequencies: &[i64]) -> io::Result<(
     )?;
     attempt(
         rt,
-        b"and a price",
+        "and a price",
         powers,
         frequencies,
         10_000,
@@ -237,7 +224,7 @@ fn several(rt: &impl Print, powers: &[i64], frequencies: &[i64]) -> io::Result<(
     )?;
     attempt(
         rt,
-        b"and the capacity",
+        "and the capacity",
         powers,
         frequencies,
         0,
@@ -247,7 +234,7 @@ fn several(rt: &impl Print, powers: &[i64], frequencies: &[i64]) -> io::Result<(
     )?;
     attempt(
         rt,
-        b"i64",
+        "i64",
         powers,
         frequencies,
         i64::MIN,
@@ -260,7 +247,7 @@ fn several(rt: &impl Print, powers: &[i64], frequencies: &[i64]) -> io::Result<(
 // Runs of another length, with every fault.
 fn lengths(rt: &impl Print, powers: &[i64], frequencies: &[i64]) -> io::Result<()> {
     let short = [200_001i64; 3599];
-    attempt(rt, b"3,599 powers", &short, frequencies, 0, -1, 11, 100_001)?;
-    attempt(rt, b"3,599 frequencies", powers, &short, 0, -1, 11, 100_001)?;
-    attempt(rt, b"neither", &short, &short, 10_000, 50_000, 10, 0)
+    attempt(rt, "3,599 powers", &short, frequencies, 0, -1, 11, 100_001)?;
+    attempt(rt, "3,599 frequencies", powers, &short, 0, -1, 11, 100_001)?;
+    attempt(rt, "neither", &short, &short, 10_000, 50_000, 10, 0)
 }

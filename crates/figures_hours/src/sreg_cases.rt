@@ -1,15 +1,15 @@
 // sReg hours: events, and hours that are handed the state of the one before.
 use crate::readings::Rule;
-use crate::{hour_cases, readings, text};
+use crate::{hour_cases, readings};
 use hour::Terms;
 use sreg::EventState;
 use sreg_hour::Settled;
 use std::io;
-use units::{Kilowatts, limits};
+use units::limits;
 
 // 10 MW; from 12 minutes 10 seconds to 12 minutes 30.
 pub(crate) fn table_2(rt: &impl Print) -> io::Result<()> {
-    text::heading(rt, b"document 001, table 2: an sReg event")?;
+    println!(rt; "document 001, table 2: an sReg event")?;
     let mut powers = [0i64; limits::SECONDS];
     readings::fill(&mut powers, 0, limits::SECONDS, Rule::Table2);
     from_eleventh(rt, &powers)
@@ -20,7 +20,7 @@ fn from_eleventh(rt: &impl Print, powers: &[i64]) -> io::Result<()> {
     let mut frequencies = [59_881i64; limits::SECONDS];
     let mut scores = [7u8; limits::SECONDS];
     event(&mut frequencies, 730, 750);
-    from_outside(rt, b"the hour", powers, &frequencies, &mut scores)?;
+    from_outside(rt, "the hour", powers, &frequencies, &mut scores)?;
     score_line(rt, &scores[740..751])?;
     rolling_line(rt, &scores[737..751])
 }
@@ -35,7 +35,7 @@ pub(crate) fn event(frequencies: &mut [i64], first: usize, last: usize) {
 
 fn from_outside(
     rt: &impl Print,
-    label: &[u8],
+    label: &str,
     powers: &[i64],
     frequencies: &[i64],
     scores: &mut [u8],
@@ -55,7 +55,7 @@ fn from_outside(
 // The hour after one that ended in these scores and this state.
 fn after(
     rt: &impl Print,
-    label: &[u8],
+    label: &str,
     powers: &[i64],
     frequencies: &[i64],
     earlier: &[u8],
@@ -79,7 +79,7 @@ fn after(
 // An hour on list S with this first factor: its settlement, a check sum of the run that it leaves, its state.
 pub(crate) fn work(
     rt: &impl Print,
-    label: &[u8],
+    label: &str,
     powers: &[i64],
     frequencies: &[i64],
     terms: Terms,
@@ -103,62 +103,54 @@ pub(crate) fn work(
     told(rt, label, s, scores)
 }
 
-fn told(rt: &impl Print, label: &[u8], s: Settled, scores: &[u8]) -> io::Result<EventState> {
-    let state = s.state;
+fn told(rt: &impl Print, label: &str, s: Settled, scores: &[u8]) -> io::Result<EventState> {
     hour_cases::settlement(rt, label, s.hour)?;
-    text::count(rt, readings::score_sum(scores))?;
-    state_told(rt, state)?;
-    text::end(rt)?;
-    Ok(state)
+    print!(rt; " {}", readings::score_sum(scores))?;
+    state_told(rt, s.state)?;
+    println!(rt; "")?;
+    Ok(s.state)
 }
 
 // A state as the desk prints it: kind, power, count.
 pub(crate) fn state_told(rt: &impl Print, state: EventState) -> io::Result<()> {
     match state {
-        EventState::Outside => three(rt, 0, Kilowatts(0), 0)?,
-        EventState::Responding { start, scored } => three(rt, 1, start, scored)?,
-        EventState::Holding { start } => three(rt, 2, start, 0)?,
-        EventState::Recovering { left } => three(rt, 3, Kilowatts(0), left)?,
+        EventState::Outside => print!(rt; " 0 0 0"),
+        EventState::Responding { start, scored } => print!(rt; " 1 {} {scored}", start.0),
+        EventState::Holding { start } => print!(rt; " 2 {} 0", start.0),
+        EventState::Recovering { left } => print!(rt; " 3 0 {left}"),
     }
-    Ok(())
-}
-
-fn three(rt: &impl Print, kind: u8, power: Kilowatts, count: u8) -> io::Result<()> {
-    text::byte(rt, kind)?;
-    text::number(rt, power.0)?;
-    text::byte(rt, count)
 }
 
 fn score_line(rt: &impl Print, scores: &[u8]) -> io::Result<()> {
-    rt.write_all(b"scores")?;
+    print!(rt; "scores")?;
     for score in scores {
-        text::byte(rt, *score)?;
+        print!(rt; " {score}")?;
     }
-    text::end(rt)
+    println!(rt; "")
 }
 
 // The rolling rates of the seconds from the fourth on.
 fn rolling_line(rt: &impl Print, scores: &[u8]) -> io::Result<()> {
-    rt.write_all(b"rolling")?;
-    for i in 3..scores.len() {
-        let oldest = i - 3;
-        text::byte(rt, rolling_rate(&scores[oldest..i], scores[i]))?;
+    print!(rt; "rolling")?;
+    for window in scores.windows(4) {
+        if let Some((newest, before)) = window.split_last() {
+            print!(rt; " {}", rolling_rate(before, *newest))?;
+        }
     }
-    text::end(rt)
+    println!(rt; "")
 }
 
 // A second's rolling rate: the rate of an hour that scores 100 from the next second on.
 fn rolling_rate(before: &[u8], score: u8) -> u8 {
     let mut scores = [100u8; limits::SECONDS];
     scores[0] = score;
-    let rated = rate::hourly_rate(before, &scores);
-    rated.rate
+    rate::hourly_rate(before, &scores).rate
 }
 
 // At 6 MW a second scores 60 outside, and 0 where an event judges it: 59,980 is reached in an event's second, tenth and
 // eleventh second. The last event starts in the hour's last second.
 pub(crate) fn ends(rt: &impl Print) -> io::Result<()> {
-    text::heading(rt, b"document 02, #103: where an event ends")?;
+    println!(rt; "document 02, #103: where an event ends")?;
     steady(rt, 3_585, 3_586)?;
     steady(rt, 3_585, 3_594)?;
     steady(rt, 3_585, 3_595)?;
@@ -171,16 +163,14 @@ fn steady(rt: &impl Print, first: usize, last: usize) -> io::Result<()> {
     let powers = [6_000i64; limits::SECONDS];
     let mut frequencies = [59_881i64; limits::SECONDS];
     event(&mut frequencies, first, last);
-    rt.write_all(b"event")?;
-    text::count(rt, first as u64)?;
-    text::count(rt, last as u64)?;
-    last_seconds(rt, b"", &powers, &frequencies)
+    print!(rt; "event {first} {last}")?;
+    last_seconds(rt, "", &powers, &frequencies)
 }
 
 // An hour, and its last sixteen scores.
 fn last_seconds(
     rt: &impl Print,
-    label: &[u8],
+    label: &str,
     powers: &[i64],
     frequencies: &[i64],
 ) -> io::Result<()> {
@@ -196,7 +186,7 @@ fn below_100(rt: &impl Print) -> io::Result<()> {
     readings::stretch(&mut powers, 3_581, 3_591, 0);
     readings::stretch(&mut powers, 3_591, limits::SECONDS, 4_000);
     event(&mut frequencies, 3_580, 3_594);
-    last_seconds(rt, b"an end second of 60", &powers, &frequencies)
+    last_seconds(rt, "an end second of 60", &powers, &frequencies)
 }
 
 // The tenth second after an event starts another, which is judged by its own start power.
@@ -208,7 +198,7 @@ fn falls_again(rt: &impl Print) -> io::Result<()> {
     event(&mut frequencies, 3_587, limits::SECONDS);
     last_seconds(
         rt,
-        b"a fall in the tenth second after",
+        "a fall in the tenth second after",
         &powers,
         &frequencies,
     )
@@ -216,7 +206,7 @@ fn falls_again(rt: &impl Print) -> io::Result<()> {
 
 // An event over the hour's end. The first hour's scores end in 90, 0, 0, and the second's begin with 0.
 pub(crate) fn in_a_row(rt: &impl Print) -> io::Result<()> {
-    text::heading(rt, b"two sReg hours, one after the other")?;
+    println!(rt; "two sReg hours, one after the other")?;
     let mut powers = [20_000i64; limits::SECONDS];
     readings::stretch(&mut powers, 3_590, 3_597, 10_000);
     readings::put(&mut powers, 3_597, 11_000);
@@ -227,7 +217,7 @@ fn first(rt: &impl Print, powers: &[i64]) -> io::Result<()> {
     let mut frequencies = [59_881i64; limits::SECONDS];
     let mut scores = [7u8; limits::SECONDS];
     event(&mut frequencies, 3_580, limits::SECONDS);
-    let state = from_outside(rt, b"the first", powers, &frequencies, &mut scores)?;
+    let state = from_outside(rt, "the first", powers, &frequencies, &mut scores)?;
     second(rt, &scores[3_597..], state)
 }
 
@@ -249,10 +239,10 @@ fn handed(
     state: EventState,
 ) -> io::Result<()> {
     let none = [0u8; 0];
-    first_seconds(rt, b"the second", powers, frequencies, earlier, state)?;
+    first_seconds(rt, "the second", powers, frequencies, earlier, state)?;
     first_seconds(
         rt,
-        b"the second, by itself",
+        "the second, by itself",
         powers,
         frequencies,
         &none,
@@ -263,7 +253,7 @@ fn handed(
 // An hour, and its first sixteen scores.
 fn first_seconds(
     rt: &impl Print,
-    label: &[u8],
+    label: &str,
     powers: &[i64],
     frequencies: &[i64],
     earlier: &[u8],

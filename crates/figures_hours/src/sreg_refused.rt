@@ -1,5 +1,5 @@
 // sReg hours and joint calls with faults: which refusal comes first, and that no state is answered beside one.
-use crate::{hour_cases, joint_cases, sreg_cases, text};
+use crate::{hour_cases, joint_cases, sreg_cases};
 use hour::Terms;
 use month::Month;
 use sreg::EventState;
@@ -7,11 +7,11 @@ use std::io;
 use units::{Kilowatts, limits};
 
 pub(crate) fn hours(rt: &impl Print) -> io::Result<()> {
-    text::heading(rt, b"refused sReg hours: 1, 2, 3, 5, 4 in this order")?;
+    println!(rt; "refused sReg hours: 1, 2, 3, 5, 4 in this order")?;
     lengths(rt)?;
     single(rt)?;
     several(rt)?;
-    text::heading(rt, b"states that an hour can end in, and others")?;
+    println!(rt; "states that an hour can end in, and others")?;
     responding(rt)?;
     holding_recovering(rt)
 }
@@ -45,16 +45,13 @@ fn lent(
     earlier: &[u8],
     scores: &mut [u8],
 ) -> io::Result<()> {
-    rt.write_all(b"lengths")?;
-    text::count(rt, powers.len() as u64)?;
-    text::count(rt, frequencies.len() as u64)?;
-    text::count(rt, earlier.len() as u64)?;
-    text::count(rt, scores.len() as u64)?;
+    print!(rt; "lengths {} {}", powers.len(), frequencies.len())?;
+    print!(rt; " {} {}", earlier.len(), scores.len())?;
     let terms = hour_cases::terms();
     let outside = EventState::Outside;
     sreg_cases::work(
         rt,
-        b"",
+        "",
         powers,
         frequencies,
         terms,
@@ -110,25 +107,12 @@ fn tried(
     state: EventState,
 ) -> io::Result<()> {
     let three = [earlier; 3];
-    terms_told(rt, capacity, clearing, factor)?;
-    readings_told(rt, power, frequency, earlier)?;
+    print!(rt; "hour {capacity} {clearing} {factor}")?;
+    print!(rt; " {power} {frequency} {earlier}")?;
     sreg_cases::state_told(rt, state)?;
     level(
         rt, capacity, clearing, factor, power, frequency, &three, state,
     )
-}
-
-fn terms_told(rt: &impl Print, capacity: i64, clearing: i64, factor: i64) -> io::Result<()> {
-    rt.write_all(b"hour")?;
-    text::number(rt, capacity)?;
-    text::number(rt, clearing)?;
-    text::number(rt, factor)
-}
-
-fn readings_told(rt: &impl Print, power: i64, frequency: i64, earlier: u8) -> io::Result<()> {
-    text::number(rt, power)?;
-    text::number(rt, frequency)?;
-    text::byte(rt, earlier)
 }
 
 // Of 7 in each place of the lent run.
@@ -147,12 +131,12 @@ fn level(
     let mut scores = [7u8; limits::SECONDS];
     let terms = Terms {
         capacity: Kilowatts(capacity),
-        clearing: clearing,
+        clearing,
         performance: 35_000,
     };
     sreg_cases::work(
         rt,
-        b"",
+        "",
         &powers,
         &frequencies,
         terms,
@@ -172,7 +156,7 @@ fn several(rt: &impl Print) -> io::Result<()> {
     tried(rt, 10_000, 43_000, 11, 200_001, 65_001, 101, state)?;
     tried(rt, 10_000, -1, 11, 200_001, 65_001, 101, state)?;
     tried(rt, 0, -1, 11, 200_001, 65_001, 101, state)?;
-    rt.write_all(b"two earlier scores too")?;
+    print!(rt; "two earlier scores too")?;
     level(rt, 0, -1, 11, 200_001, 65_001, &two, state)
 }
 
@@ -187,7 +171,7 @@ fn responding(rt: &impl Print) -> io::Result<()> {
 fn begun(rt: &impl Print, start: i64, scored: u8) -> io::Result<()> {
     let state = EventState::Responding {
         start: Kilowatts(start),
-        scored: scored,
+        scored,
     };
     handed(rt, state)
 }
@@ -212,12 +196,12 @@ fn held(rt: &impl Print, start: i64) -> io::Result<()> {
 }
 
 fn left(rt: &impl Print, left: u8) -> io::Result<()> {
-    handed(rt, EventState::Recovering { left: left })
+    handed(rt, EventState::Recovering { left })
 }
 
 // Hours of a month of 30 days, each handed a state of so many seconds left, each ending in an event's first second.
 pub(crate) fn joint(rt: &impl Print) -> io::Result<()> {
-    text::heading(rt, b"sReg joint calls")?;
+    println!(rt; "sReg joint calls")?;
     let m = joint_cases::opened(30);
     let m = join(rt, 10, m, 3, 10)?;
     let m = join(rt, 10, m, 3, 10)?;
@@ -231,11 +215,8 @@ fn join(rt: &impl Print, left: u8, m: Month, day: u8, hour: u8) -> io::Result<Mo
     let powers = [10_000i64; limits::SECONDS];
     let mut frequencies = [59_881i64; limits::SECONDS];
     sreg_cases::event(&mut frequencies, 3_599, limits::SECONDS);
-    rt.write_all(b"joint")?;
-    text::byte(rt, left)?;
-    text::byte(rt, day)?;
-    text::byte(rt, hour)?;
-    let state = EventState::Recovering { left: left };
+    print!(rt; "joint {left} {day} {hour}")?;
+    let state = EventState::Recovering { left };
     posted(rt, &powers, &frequencies, state, m, day, hour)
 }
 
@@ -264,11 +245,9 @@ fn posted(
         day,
         hour,
     );
-    let after = j.state;
     let joined = j.joined;
-    let month = joined.month;
-    hour_cases::settlement(rt, b"", joined.hour)?;
-    sreg_cases::state_told(rt, after)?;
-    joint_cases::ledger(rt, month, day, hour)?;
-    Ok(month)
+    hour_cases::settlement(rt, "", joined.hour)?;
+    sreg_cases::state_told(rt, j.state)?;
+    joint_cases::ledger(rt, joined.month, day, hour)?;
+    Ok(joined.month)
 }

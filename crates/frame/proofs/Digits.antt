@@ -161,6 +161,9 @@ digits_next l i all e h = e ∙ ap (λ (r : List ℕ). all && all_digits r) (res
 pub digits_done : (l : List ℕ) (i : ℕ) (all : Bool) → all_digits l ≡ all && all_digits (drop i l) → length l ≤ i → all ≡ all_digits l
 digits_done l i all e h = sym (e ∙ ap (λ (r : List ℕ). all && all_digits r) (no_rest l i h) ∙ and-true all)
 
+-- what `all_digits` goes by
+pub ruleset testing = (digits_next, digits_done)
+
 -- bytes are encoded into a run, two digits from a byte
 module _ (bs run : List ℕ) (n i : ℕ) (even : n ≡ 2 * length bs) (same : length run ≡ n)
     (left : take (2 * i) run ++ digits_of (drop i bs) ≡ digits_of bs) where
@@ -177,3 +180,8 @@ module _ (bs run : List ℕ) (n i : ℕ) (even : n ≡ 2 * length bs) (same : le
   pub encode_done : length bs ≤ i → run ≡ digits_of bs
   encode_done h =
       sym (fill_done run (2 * i) (omega arith)) ∙ ap (λ (r : List ℕ). take (2 * i) run ++ digits_of r) (sym (no_rest bs i h)) ∙ left
+
+-- what `encode` and `put_values` go by
+pub ruleset encoding = (encode_next, encode_done)
+
+pub ruleset decoding = (two_next, decode_next, decode_done)

@@ -3,55 +3,70 @@
 use Prim.Native.Nat.{ℕ, suc, ◌+◌, ◌-◌, ◌%◌, ◌≤◌}
 use native.Mathlib.Omega.{arith}
 use mathlib.Core.Path.{◌≡◌, refl, sym, ap, ◌∙◌}
-use mathlib.Core.Bool.{true, false}
+use mathlib.Core.Bool.{Bool, true, false}
 use mathlib.Core.List.{List, [], ◌∷◌, ◌++◌, append-nil}
 use lib.Dec.{eqb}
-use lib.ListN.{length, take, drop, set, drop_of_length-le, length-append, length-set}
+use lib.ListN.{length, take, drop, set, drop_of_length-le, length-append}
 use lib.Seq.{length-take-le, set_split, take_at}
-use borrow.Author.Tests.{ne_eqb, eq-eqb, eqb-true}
-use borrow.Rule.Slice.PartMut.{put_mid, mid_of, same_len_mid}
+use borrow.Author.Tests.{ne_eqb, eq-eqb, eqb-true, eqb-false}
+use borrow.Rule.Slice.PartMut.{put_mid}
 use Rattle.whole.specs.Choice.{or_else, in_order}
-use Rattle.whole.proofs.Choice.{all_passed, in_order_then, kept_new, kept_old}
-use Rattle.units.specs.Refusals.{wrong_length, bad_digit, bad_sum, bad_kind}
+use Rattle.std.specs.Prelude.{Result, Ok, Err}
+use Rattle.whole.proofs.Choice.{all_passed, by_test, in_order_then, kept_new, kept_old}
+use Rattle.units.specs.Refusals.{wrong_length, bad_digit, bad_sum, bad_kind, paper_number, told_number, refusal_numbered, result_by}
+use Rattle.units.specs.declared.refusal.Refusal.{Refusal}
+use Rattle.units.specs.declared.refusal.Refusal.TheVariants.{WrongLength, BadDigit, BadSum, BadKind}
+use Rattle.units.proofs.Numbered.{let_through, answer_is, no_refusal}
 use Rattle.frame.specs.Digits.{all_digits, digits_of, bytes_of}
-use Rattle.frame.specs.Numbers.{bytes_in, byte_sum}
-use Rattle.frame.specs.Frame.{line_digits, checked, line_tests, line_refusal, zeros, opened_of, in_form, entry_of, read_refusal, reading_of, body_of, with_sum, line_of, write_refusal, written, close_refusal, closed}
+use Rattle.frame.specs.Numbers.{byte_sum}
+use Rattle.frame.specs.Frame.{line_digits, checked, line_tests, line_refusal, opened_of, in_form, entry_of, read_refusal, reading_of, body_of, with_sum, line_of, write_refusal, written, close_refusal, closed}
 use Rattle.frame.specs.declared.Entry.{Entry}
 use Rattle.frame.proofs.Digits.{length_digits}
-use Rattle.frame.specs.declared.Opened.{Opened}
-use Rattle.frame.specs.declared.Reading.TheVariants.{Frame, Refused}
+
+-- ---- a refusal that is answered has its number
+
+abbrev or_refusal : {A : Type 0} → Refusal → Result A Refusal → Refusal
+or_refusal r (Ok a) = r
+or_refusal r (Err s) = s
+
+pub refusal_is : {A : Type 0} (k : ℕ) (a : A) {r : Refusal} → result_by k a ≡ Err r → (k ≡ 0 → ⊥) × (refusal_numbered k ≡ r)
+refusal_is k a {r = r} e =
+    by_test (eqb k 0)
+    (λ (t : eqb k 0 ≡ true). no_refusal (sym (rw t at e)))
+    (λ (t : eqb k 0 ≡ false). (eqb-false k 0 t, ap (or_refusal r) (rw t at e)))
 
 -- ---- out of `open_line`
 
-abbrev pub away : ℕ → Opened
-away k = record { refusal = k; bytes = zeros }
-
 module _ (line : List ℕ) where
-  pub opened_length : (length line ≡ line_digits → ⊥) → away wrong_length ≡ opened_of line
+  pub opened_length : (length line ≡ line_digits → ⊥) → Err WrongLength ≡ opened_of line
   unfolding opened_of line_refusal
   opened_length h = rw (ne_eqb (length line) line_digits h)
 
-  pub opened_digit : length line ≡ line_digits → all_digits line ≡ false → away bad_digit ≡ opened_of line
+  pub opened_digit : length line ≡ line_digits → all_digits line ≡ false → Err BadDigit ≡ opened_of line
   unfolding opened_of line_refusal
   opened_digit h d = rw (eq-eqb (length line) line_digits h, d)
 
-  pub opened_sum : (bytes : List ℕ) → length line ≡ line_digits → all_digits line ≡ true → bytes ≡ bytes_of line → checked bytes ≡ false → away bad_sum ≡ opened_of line
+  pub opened_sum : (bytes : List ℕ) → length line ≡ line_digits → all_digits line ≡ true → bytes ≡ bytes_of line → checked bytes ≡ false → Err BadSum ≡ opened_of line
   unfolding opened_of line_refusal
   opened_sum bytes h d e s = rw (eq-eqb (length line) line_digits h, d, rw e at s)
 
   pub opened_right : (bytes : List ℕ) → length line ≡ line_digits → all_digits line ≡ true → bytes ≡ bytes_of line → checked bytes ≡ true
-      → ◌≡◌ {A = Opened} (record { refusal = 0; bytes = bytes }) (opened_of line)
+      → Ok bytes ≡ opened_of line
   unfolding opened_of line_refusal
   opened_right bytes h d e s = rw (eq-eqb (length line) line_digits h, d, rw e at s, e)
 
-  -- what the answer holds
-  pub opened_number : (opened_of line).refusal ≡ line_refusal line
+  -- what the answer says
+  pub opened_none : (bytes : List ℕ) → opened_of line ≡ Ok bytes → line_refusal line ≡ 0
   unfolding opened_of
-  opened_number = refl
+  opened_none bytes e = let_through (line_refusal line) (bytes_of line) e
 
-  pub opened_bytes : line_refusal line ≡ 0 → (opened_of line).bytes ≡ bytes_of line
+  pub opened_bytes : (bytes : List ℕ) → opened_of line ≡ Ok bytes → bytes_of line ≡ bytes
   unfolding opened_of
-  opened_bytes e = kept_new (bytes_of line) zeros e
+  opened_bytes bytes e = answer_is (line_refusal line) (bytes_of line) e
+
+  pub opened_refusal : (r : Refusal) → opened_of line ≡ Err r → (line_refusal line ≡ 0 → ⊥) × (refusal_numbered (line_refusal line) ≡ r)
+  unfolding opened_of
+  opened_refusal r e = refusal_is (line_refusal line) (bytes_of line) e
 
   -- ---- out of `read_frame`
 
@@ -59,17 +74,46 @@ module _ (line : List ℕ) where
   unfolding line_refusal read_refusal
   read_number = in_order_then (line_tests line) ((in_form (entry_of (bytes_of line)), bad_kind) ∷ []) refl
 
-  pub reading_line : (line_refusal line ≡ 0 → ⊥) → Refused (line_refusal line) ≡ reading_of line
+  pub reading_line : (r : Refusal) → opened_of line ≡ Err r → Err r ≡ reading_of line
   unfolding reading_of
-  reading_line h = let n = ne_eqb (line_refusal line) 0 h in rw (read_number, n, n)
+  reading_line r e =
+      let z = opened_refusal r e in
+      let n = ne_eqb (line_refusal line) 0 z.0 in
+      rw (read_number, n, n) (ap Err (sym z.1))
 
-  pub reading_form : line_refusal line ≡ 0 → in_form (entry_of (bytes_of line)) ≡ false → Refused bad_kind ≡ reading_of line
+  pub reading_form : line_refusal line ≡ 0 → in_form (entry_of (bytes_of line)) ≡ false → Err BadKind ≡ reading_of line
   unfolding reading_of
   reading_form h f = rw (read_number, eq-eqb (line_refusal line) 0 h, f)
 
-  pub reading_entry : line_refusal line ≡ 0 → in_form (entry_of (bytes_of line)) ≡ true → Frame (entry_of (bytes_of line)) ≡ reading_of line
+  pub reading_entry : line_refusal line ≡ 0 → in_form (entry_of (bytes_of line)) ≡ true → Ok (entry_of (bytes_of line)) ≡ reading_of line
   unfolding reading_of
   reading_entry h f = rw (read_number, eq-eqb (line_refusal line) 0 h, f)
+
+  -- the same by the bytes that were opened
+  pub form_refused : (bytes : List ℕ) → opened_of line ≡ Ok bytes → in_form (entry_of bytes) ≡ false → Err BadKind ≡ reading_of line
+  form_refused bytes e f = reading_form (opened_none bytes e) (ap (λ (b : List ℕ). in_form (entry_of b)) (opened_bytes bytes e) ∙ f)
+
+  pub entry_read : (bytes : List ℕ) → opened_of line ≡ Ok bytes → in_form (entry_of bytes) ≡ true → Ok (entry_of bytes) ≡ reading_of line
+  entry_read bytes e f =
+      let b = opened_bytes bytes e in
+      ap (λ (b : List ℕ). Ok (entry_of b)) (sym b) ∙ reading_entry (opened_none bytes e) (ap (λ (b : List ℕ). in_form (entry_of b)) b ∙ f)
+
+  -- the number of a refusal is the paper's
+  pub read_told : (r : Refusal) → reading_of line ≡ Err r → paper_number r ≡ read_refusal line
+  unfolding reading_of read_refusal
+  read_told r e = ap told_number (sym e) ∙ by (eqb (length line) line_digits) (all_digits line) (checked (bytes_of line)) (in_form (entry_of (bytes_of line)))
+    where
+      by : (a b c d : Bool) → let k = in_order ((a, wrong_length) ∷ (b, bad_digit) ∷ (c, bad_sum) ∷ (d, bad_kind) ∷ []) in told_number (result_by k (entry_of (bytes_of line))) ≡ k
+      by true true true true = refl
+      by true true true false = refl
+      by true true false d = refl
+      by true false c d = refl
+      by false b c d = refl
+
+-- what `open_line` and `read_frame` go by
+pub ruleset opening = (opened_length, opened_digit, opened_sum, opened_right)
+
+pub ruleset reading = (reading_line, form_refused, entry_read)
 
 -- ---- out of `write_frame`
 
@@ -102,6 +146,25 @@ module _ (entry : Entry) (run : List ℕ) where
   unfolding write_refusal
   takes h f = rw (eq-eqb (length run) line_digits h, f)
 
+-- the number that it answers
+pub write_told : (entry : Entry) (n : ℕ) (r : Refusal) → result_by (write_refusal entry n) (tt {0}) ≡ Err r → paper_number r ≡ write_refusal entry n
+unfolding write_refusal
+write_told entry n r e = ap told_number (sym e) ∙ by (eqb n line_digits) (in_form entry)
+  where
+    by : (s t : Bool) → let k = in_order ((s, wrong_length) ∷ (t, bad_kind) ∷ []) in told_number (result_by k (tt {0})) ≡ k
+    by true true = refl
+    by true false = refl
+    by false t = refl
+
+pub write_none : (entry : Entry) (n : ℕ) (u : Unit {0}) → result_by (write_refusal entry n) tt ≡ Ok u → write_refusal entry n ≡ 0
+write_none entry n u e = let_through (write_refusal entry n) tt e
+
+-- what a caller goes by that takes the number
+pub ruleset writes = (write_told, write_none)
+
+-- what `write_frame` goes by
+pub ruleset writing = (write_refused, write_right, length_refuses, form_refuses, takes)
+
 -- ---- twelve bytes in a run
 
 pub eleven : (l : List ℕ) → length l ≡ 12 → length (take 11 l) ≡ 11
@@ -119,21 +182,15 @@ length_line entry = length_digits (with_sum (body_of entry)) ∙ omega (arith, l
 abbrev three : List ℕ → ℕ → ℕ → ℕ → List ℕ
 three b k d h = set (set (set b 0 k) 1 d) 2 h
 
-pub put_three : (w : ℕ) (b : List ℕ) (k d h n : ℕ) → length b ≡ 3 + w
-    → put_mid 3 (length (three b k d h) - 3) (three b k d h) (bytes_in (length (mid_of 3 (length (three b k d h) - 3) (three b k d h))) n) ≡ k ∷ d ∷ h ∷ bytes_in w n
-put_three w [] k d h n e = absurd (omega arith)
-put_three w (x ∷ []) k d h n e = absurd (omega arith)
-put_three w (x ∷ y ∷ []) k d h n e = absurd (omega arith)
-put_three w (x ∷ y ∷ z ∷ r) k d h n e =
-    let q : suc (suc (suc (length r))) - 3 ≡ w = omega arith in
-    let l : w ≤ length r = omega arith in
-    let g : length r ≤ w = omega arith in
-    ap (λ (i : ℕ). k ∷ d ∷ h ∷ (bytes_in (length (take i r)) n ++ drop i r)) q
-    ∙ rw (length-take-le w r l, drop_of_length-le r g, append-nil)
-
-pub same_three : (b m : List ℕ) (k d h : ℕ) → length m ≡ length (mid_of 3 (length (three b k d h) - 3) (three b k d h))
-    → length (put_mid 3 (length (three b k d h) - 3) (three b k d h) m) ≡ length b
-same_three b m k d h e = same_len_mid 3 (length (three b k d h) - 3) (three b k d h) m e ∙ simp length-set
+pub put_three : (b m : List ℕ) (k d h : ℕ) → length b ≡ 3 + length m
+    → put_mid 3 (length (three b k d h) - 3) (three b k d h) m ≡ k ∷ d ∷ h ∷ m
+put_three [] m k d h e = absurd (omega arith)
+put_three (x ∷ []) m k d h e = absurd (omega arith)
+put_three (x ∷ y ∷ []) m k d h e = absurd (omega arith)
+put_three (x ∷ y ∷ z ∷ r) m k d h e =
+    let q : suc (suc (suc (length r))) - 3 ≡ length m = omega arith in
+    let g : length r ≤ length m = omega arith in
+    ap (λ (i : ℕ). k ∷ d ∷ h ∷ (m ++ drop i r)) q ∙ rw (drop_of_length-le r g, append-nil)
 
 -- ---- out of `close_line`
 
@@ -145,11 +202,11 @@ put_sum bytes s twelve h =
     set_split bytes 11 s (omega arith) ∙ rw (none, h)
 
 module _ (bytes run : List ℕ) where
-  pub close_length : (length run ≡ line_digits → ⊥) → (1 ≡ close_refusal (length run)) × (run ≡ closed bytes run)
+  pub close_length : (length run ≡ line_digits → ⊥) → (Err WrongLength ≡ result_by (close_refusal (length run)) (tt {0})) × (run ≡ closed bytes run)
   unfolding closed close_refusal
   close_length h = rw (ne_eqb (length run) line_digits h) (refl, refl)
 
-  pub close_right : length run ≡ line_digits → (0 ≡ close_refusal (length run)) × (digits_of (with_sum (take 11 bytes)) ≡ closed bytes run)
+  pub close_right : length run ≡ line_digits → (Ok tt ≡ result_by (close_refusal (length run)) (tt {0})) × (digits_of (with_sum (take 11 bytes)) ≡ closed bytes run)
   unfolding closed close_refusal
   close_right h = rw (eq-eqb (length run) line_digits h) (refl, refl)
 

@@ -1,7 +1,6 @@
 -- The laws that belong to no one function; `pub` are those that crates above cite.
 pub mod Numbers
 pub mod Digits
-mod Words
 pub mod Frames
 pub mod Lines
 pub mod RoundTrip

@@ -2,19 +2,21 @@
 -- By induction on the width or the bytes. Assumes nothing.
 use Prim.Native.Nat.{ℕ, zero, suc, ◌+◌, ◌-◌, ◌*◌, ◌/◌, ◌%◌, ◌^◌, ◌<◌, ◌≤◌}
 use native.Mathlib.Omega.{arith}
-use native.Mathlib.Nat.{pow-suc, pow-zero, add-zero, zero-add, suc-add, add-suc, pow-le-pow_right, lt_of_lt_of_le}
+use native.Mathlib.Nat.{pow-suc, pow-zero, add-zero, zero-add, suc-add, add-suc}
 use mathlib.Core.Path.{◌≡◌, refl, sym, ap, ◌∙◌, subst}
 use mathlib.Core.Bool.{Bool, true, false}
 use mathlib.Core.List.{List, [], ◌∷◌, ◌++◌, append_assoc, append-nil}
 use lib.IntN.{ℤ, pos, negsuc}
 use lib.Signed.{mag}
 use lib.Dec.{ltb}
-use lib.ListN.{length, get_or, take, drop, set, length-append, length-set}
-use lib.Seq.{drop-cons, drop-length, drop-set-lt, get_or-set_same}
-use mir.Syntax.{w8}
-use mir.Val.{Fits}
+use lib.ListN.{length, get_or, take, drop, length-append}
+use mir.Syntax.{w64}
+use mir.Val.{to_z, of_z}
 use borrow.Author.Tests.{lt-ltb, le-ltb, ltb-true, ltb-false}
+use Rattle.std.specs.Int.{to_be_bytes, from_be_bytes}
+use Rattle.std.proofs.Math.Nat.{div-div-eq-div-mul}
 use Rattle.whole.specs.Choice.{pick}
+use Rattle.whole.proofs.Choice.{by_test}
 use Rattle.whole.proofs.Runs.{rest, no_rest}
 use Rattle.frame.specs.Numbers.{bytes_in, number_after, number_of, twos_in, signed_in, byte_sum}
 
@@ -42,11 +44,6 @@ pub byte_at : (l : List ℕ) (i : ℕ) → Bytes l → get_or l i 0 < 256
 byte_at [] i b = omega arith
 byte_at (x ∷ l) zero b = b.0
 byte_at (x ∷ l) (suc i) b = byte_at l i b.1
-
--- what a slice says of each of its elements
-pub bytes_known : (l : List ℕ) → ((i : ℕ) → Fits w8 (get_or l i 0)) → Bytes l
-bytes_known [] f = tt
-bytes_known (b ∷ bs) f = ((f 0).fits, bytes_known bs (λ (i : ℕ). f (suc i)))
 
 -- ---- a number below 256 ^ k and its k bytes
 
@@ -135,48 +132,31 @@ signed_below k n h =
     subst (λ (w : ℕ). mag (pick (ltb n (256 ^ suc k / 2)) (pos n) (negsuc (w - suc n))) < 256 ^ suc k / 2) (sym m)
     (signed_picked (256 ^ suc k / 2) n l (ltb n (256 ^ suc k / 2)) refl)
 
--- ---- loops: the number of the bytes read, from the front
+-- ---- eight bytes, as `to_be_bytes` and `from_be_bytes` have them
 
-number_grows : (n : ℕ) (bs : List ℕ) → n ≤ number_after n bs
-number_grows n [] = omega arith
-number_grows n (b ∷ bs) = omega (arith, number_grows (n * 256 + b) bs)
+eight_bytes : (n : ℕ) → to_be_bytes w64 n ≡ bytes_in 8 n
+eight_bytes n = simp div-div-eq-div-mul
 
-module _ (l : List ℕ) (n i : ℕ) (left : number_of l ≡ number_after n (drop i l)) where
-  pub number_next : i < length l → number_of l ≡ number_after (n * 256 + get_or l i 0) (drop (i + 1) l)
-  number_next h = left ∙ ap (number_after n) (rest l i 0 h)
+twos_are : (z : ℤ) → of_z w64 z ≡ twos_in 8 z
+unfolding twos_in
+twos_are (pos n) = refl
+twos_are (negsuc n) = refl
 
-  -- it only grows, so that it fits where the whole number does
-  pub number_fits : Bytes l → length l ≤ 8 → i < length l → n * 256 + get_or l i 0 < 2 ^ 64
-  number_fits b w h =
-      let most : number_of l < 2 ^ 64 = lt_of_lt_of_le (number_below l b) (pow-le-pow_right {n = 256} (omega arith) w) in
-      let more : n * 256 + get_or l i 0 ≤ number_of l = rw (number_next h) (number_grows (n * 256 + get_or l i 0) (drop (i + 1) l)) in
-      omega arith
+pub eight_put : (z : ℤ) → to_be_bytes w64 (of_z w64 z) ≡ bytes_in 8 (twos_in 8 z)
+eight_put z = eight_bytes (of_z w64 z) ∙ ap (bytes_in 8) (twos_are z)
 
-  pub number_done : length l ≤ i → n ≡ number_of l
-  number_done h = sym (left ∙ ap (number_after n) (no_rest l i h))
+number_eight : (bs : List ℕ) → length bs ≡ 8 → from_be_bytes w64 bs ≡ number_of bs
+number_eight (a ∷ b ∷ c ∷ d ∷ e ∷ f ∷ g ∷ h ∷ []) l = omega arith
+number_eight bs l = absurd (omega arith)
 
--- a number is put into a run from its end: what is left of it, and then what is put
-put_at : (all run : List ℕ) (j r : ℕ) → j < length run → all ≡ bytes_in (suc j) r ++ drop (suc j) run
-    → all ≡ bytes_in j (r / 256) ++ drop j (set run j (r % 256))
-put_at all run j r h e =
-    let k : j < length (set run j (r % 256)) = simp length-set h in
-    let d : drop j (set run j (r % 256)) ≡ r % 256 ∷ drop (suc j) run =
-    drop-cons (set run j (r % 256)) j 0 k ∙ rw (get_or-set_same run j (r % 256) 0 h, drop-set-lt (suc j) run j (r % 256) (omega arith)) in
-    e ∙ append_assoc (bytes_in j (r / 256)) (r % 256 ∷ []) (drop (suc j) run) ∙ ap (λ (t : List ℕ). bytes_in j (r / 256) ++ t) (sym d)
+signed_is : (n : ℕ) → to_z w64 n ≡ signed_in 8 n
+unfolding signed_in
+signed_is n = by_test (ltb n 9223372036854775808) (λ (t : ltb n 9223372036854775808 ≡ true). rw t) (λ (t : ltb n 9223372036854775808 ≡ false). rw t)
 
-pub put_start : (all run : List ℕ) → all ≡ all ++ drop (length run) run
-put_start all run = rw (drop-length, append-nil)
+pub eight_read : (bs : List ℕ) → length bs ≡ 8 → to_z w64 (from_be_bytes w64 bs) ≡ signed_in 8 (number_of bs)
+eight_read bs l = ap (to_z w64) (number_eight bs l) ∙ signed_is (number_of bs)
 
-module _ (all run : List ℕ) (i r : ℕ) (left : all ≡ bytes_in i r ++ drop i run) where
-  pub put_next : 0 < i → i ≤ length run → all ≡ bytes_in (i - 1) (r / 256) ++ drop (i - 1) (set run (i - 1) (r % 256))
-  put_next p h =
-      let q : i ≡ suc (i - 1) = omega arith in
-      put_at all run (i - 1) r (omega arith) (subst (λ (k : ℕ). all ≡ bytes_in k r ++ drop k run) q left)
-
-  pub put_done : i ≤ 0 → run ≡ all
-  put_done h =
-      let q : i ≡ 0 = omega arith in
-      sym (subst (λ (k : ℕ). all ≡ bytes_in k r ++ drop k run) q left)
+-- ---- a loop: the sum of the bytes read, from the front
 
 -- the sum of the bytes read, modulo 256
 module _ (l : List ℕ) (s i : ℕ) (left : byte_sum l % 256 ≡ (s + byte_sum (drop i l)) % 256) where
@@ -185,3 +165,6 @@ module _ (l : List ℕ) (s i : ℕ) (left : byte_sum l % 256 ≡ (s + byte_sum (
 
   pub sum_done : length l ≤ i → s % 256 ≡ byte_sum l % 256
   sum_done h = sym (left ∙ ap (λ (r : List ℕ). (s + byte_sum r) % 256) (no_rest l i h) ∙ omega arith)
+
+-- what `sum` goes by
+pub ruleset summing = (sum_next, sum_done)

@@ -3,26 +3,25 @@
 use Prim.Native.Nat.{ℕ, ◌%◌, ◌^◌, ◌<◌}
 use native.Mathlib.Omega.{arith}
 use mathlib.Core.Path.{◌≡◌, refl, sym, ap, ◌∙◌, subst}
-use mathlib.Core.Bool.{Bool, true, false}
+use mathlib.Core.Bool.{true}
 use mathlib.Core.List.{List, [], ◌∷◌, ◌++◌}
-use lib.Dec.{eqb}
 use lib.IntN.{ℤ}
 use lib.ListN.{length, take, drop, length-drop}
 use lib.Seq.{take_at, length-take-le}
 use mir.Syntax.{w64}
 use mir.Val.{SFits}
-use borrow.Author.Tests.{eq-eqb, eqb-true}
-use Rattle.whole.specs.Choice.{pick}
-use Rattle.whole.proofs.Choice.{clash, both_passed, all_passed}
-use Rattle.units.specs.Refusals.{bad_kind}
+use Rattle.std.specs.Prelude.{Ok, Err}
+use Rattle.whole.proofs.Choice.{both_passed, all_passed}
+use Rattle.units.specs.Refusals.{bad_kind, paper_number}
+use Rattle.units.specs.declared.refusal.Refusal.{Refusal}
+use Rattle.units.proofs.Numbered.{let_through, answer_is}
 use Rattle.frame.specs.Digits.{digits_of, bytes_of}
 use Rattle.frame.specs.Numbers.{bytes_in, number_of, twos_in, signed_in, byte_sum}
 use Rattle.frame.specs.Frame.{line_digits, line_refusal, in_form, entry_of, read_refusal, reading_of, body_of, with_sum, line_of, write_refusal, written}
 use Rattle.frame.specs.declared.Entry.{Entry}
-use Rattle.frame.specs.declared.Reading.TheVariants.{Frame, Refused}
 use Rattle.frame.proofs.Numbers.{Bytes, bytes_take, bytes_drop, byte_at, bytes_are, length_bytes, number_bytes, bytes_number, number_below, signed_twos, twos_signed, twos_below, signed_below}
 use Rattle.frame.proofs.Lines.{Sound, sound, opens, twelve, line_bytes, line_back, made_bytes, made_sound}
-use Rattle.frame.proofs.Frames.{length_body, read_number, reading_entry, write_right, taken, takes}
+use Rattle.frame.proofs.Frames.{length_body, refusal_is, read_number, read_told, reading_entry, write_right, taken, takes}
 
 -- the entry's fields lie in their types
 pub record Held (entry : Entry) : Type 0 where
@@ -51,29 +50,20 @@ entry_back entry h =
     entry_of_three entry.kind entry.day entry.hour (byte_sum (body_of entry) % 256) (bytes_in 8 (twos_in 8 entry.amount.0)) entry.amount.0
     (length_bytes 8 (twos_in 8 entry.amount.0)) (amount_back entry.amount.0 h.amount)
 
-pub read_written : (entry : Entry) → Held entry → in_form entry ≡ true → reading_of (line_of entry) ≡ Frame entry
+pub read_written : (entry : Entry) → Held entry → in_form entry ≡ true → reading_of (line_of entry) ≡ Ok entry
 unfolding line_of
 read_written entry h f =
     let body = body_of entry in
     let l = length_body entry in
     let b = body_bytes entry h in
     let e : entry_of (bytes_of (digits_of (with_sum body))) ≡ entry = ap entry_of (made_bytes body l b) ∙ entry_back entry h in
-    sym (reading_entry (digits_of (with_sum body)) (opens (digits_of (with_sum body)) (made_sound body l b)) (ap in_form e ∙ f)) ∙ ap Frame e
+    sym (reading_entry (digits_of (with_sum body)) (opens (digits_of (with_sum body)) (made_sound body l b)) (ap in_form e ∙ f)) ∙ ap Ok e
 
 -- the same of a lent run that the writer filled
-pub read_filled : (entry : Entry) (run : List ℕ) → Held entry → write_refusal entry (length run) ≡ 0 → reading_of (written entry run) ≡ Frame entry
+pub read_filled : (entry : Entry) (run : List ℕ) → Held entry → write_refusal entry (length run) ≡ 0 → reading_of (written entry run) ≡ Ok entry
 read_filled entry run h z = ap reading_of (sym (write_right entry run z)) ∙ read_written entry h (taken entry run z).1
 
 -- ---- read, then written
-
--- the two cases of the reader's answer
-frame_is : (t : Bool) (k : ℕ) (x entry : Entry) → pick t (Frame x) (Refused k) ≡ Frame entry → (t ≡ true) × (x ≡ entry)
-frame_is true k x entry e = (refl, cc)
-frame_is false k x entry e = let z : ◌≡◌ {A = ℕ} 0 1 = cc in absurd (omega arith)
-
-refused_is : (t : Bool) (k n : ℕ) (x : Entry) → pick t (Frame x) (Refused k) ≡ Refused n → (t ≡ false) × (n ≡ k)
-refused_is true k n x e = let z : ◌≡◌ {A = ℕ} 0 1 = cc in absurd (omega arith)
-refused_is false k n x e = (refl, cc)
 
 -- what a line that reads as an entry has passed
 pub record Passed (line : List ℕ) (entry : Entry) : Type 0 where
@@ -81,21 +71,19 @@ pub record Passed (line : List ℕ) (entry : Entry) : Type 0 where
   pub form : in_form entry ≡ true
   pub held : entry_of (bytes_of line) ≡ entry
 
-pub passed : (line : List ℕ) (entry : Entry) → reading_of line ≡ Frame entry → Passed line entry
+pub passed : (line : List ℕ) (entry : Entry) → reading_of line ≡ Ok entry → Passed line entry
 unfolding reading_of
 passed line entry e =
     let x = entry_of (bytes_of line) in
-    let f = frame_is (eqb (read_refusal line) 0) (read_refusal line) x entry e in
-    let b = both_passed (line_refusal line) _ (sym (read_number line) ∙ eqb-true (read_refusal line) 0 f.0) in
+    let f = answer_is (read_refusal line) x e in
+    let b = both_passed (line_refusal line) _ (sym (read_number line) ∙ let_through (read_refusal line) x e) in
     let g = all_passed ((in_form x, bad_kind) ∷ []) refl b.1 in
-    record { sound = sound line b.0; form = ap in_form (sym f.1) ∙ g.0; held = f.1 }
+    record { sound = sound line b.0; form = ap in_form (sym f) ∙ g.0; held = f }
 
 -- and a line that does not has its refusal
-pub refused : (line : List ℕ) (n : ℕ) → reading_of line ≡ Refused n → (n ≡ read_refusal line) × (n ≡ 0 → ⊥)
+pub refused : (line : List ℕ) (r : Refusal) → reading_of line ≡ Err r → (paper_number r ≡ read_refusal line) × (paper_number r ≡ 0 → ⊥)
 unfolding reading_of
-refused line n e =
-    let r = refused_is (eqb (read_refusal line) 0) (read_refusal line) n (entry_of (bytes_of line)) e in
-    (r.1, λ z. clash (sym r.0 ∙ eq-eqb (read_refusal line) 0 (sym r.1 ∙ z)))
+refused line r e = let n = read_told line r e in (n, λ z. (refusal_is (read_refusal line) (entry_of (bytes_of line)) e).0 (sym n ∙ z))
 
 module _ (bs : List ℕ) (twelve : length bs ≡ 12) (bytes : Bytes bs) where
   amount_bytes : Bytes (take 8 (drop 3 bs))
@@ -129,7 +117,7 @@ body_again (x ∷ []) l b = absurd (omega arith)
 body_again (x ∷ y ∷ []) l b = absurd (omega arith)
 body_again (x ∷ y ∷ z ∷ r) l b = ap (λ (t : List ℕ). x ∷ y ∷ z ∷ t) (amount_again (x ∷ y ∷ z ∷ r) l b)
 
-module _ (line : List ℕ) (entry : Entry) (reads : reading_of line ≡ Frame entry) where
+module _ (line : List ℕ) (entry : Entry) (reads : reading_of line ≡ Ok entry) where
   pub read_held : Held entry
   read_held =
       let p = passed line entry reads in

@@ -9,19 +9,20 @@ use Rattle.frame.specs.Digits.{is_hex_digit, hex_value_of}
 use Rattle.frame.specs.Numbers.{signed_in}
 use Rattle.frame.specs.Kinds.{open_kind, post_kind, basic_fee_kind}
 use Rattle.frame.specs.Frame.{checked, line_refusal, in_form, entry_of, read_refusal, reading_of}
-use Rattle.frame.specs.declared.Reading.{Reading}
-use Rattle.frame.specs.declared.Reading.TheVariants.{Frame}
+use Rattle.std.specs.Prelude.{Result, Ok}
+use Rattle.units.specs.declared.refusal.Refusal.{Refusal}
+use Rattle.frame.specs.declared.Entry.{Entry}
 
 abbrev line : text.String → List ℕ
 line text.[] = []
 line (text.◌∷◌ c cs) = code c ∷ line cs
 
-abbrev readings : List text.String → List Reading
+abbrev readings : List text.String → List (Result Entry Refusal)
 readings [] = []
 readings (l ∷ ls) = reading_of (line l) ∷ readings ls
 
-abbrev framed : ℕ → ℕ → ℕ → ℕ → Reading
-framed kind day hour dollars = Frame (record { kind = kind; day = day; hour = hour; amount = record { 0 = pos dollars } })
+abbrev framed : ℕ → ℕ → ℕ → ℕ → Result Entry Refusal
+framed kind day hour dollars = Ok (record { kind = kind; day = day; hour = hour; amount = record { 0 = pos dollars } })
 
 samples :
     readings ("001F0000000000000000001F" ∷ "01030A0000000000001E78A4" ∷ "01030A0000000000001888AE" ∷ "04000000000000000021D2F7" ∷ [])

@@ -1,15 +1,13 @@
 -- Document 01, "Frames": a line is 24 digits, twelve bytes: kind, day, hour, eight bytes of amount, and the sum of these eleven modulo 256.
-use Rattle.std.specs.Prelude.{ℕ, ◌%◌, Bool, false, ◌&&◌, ◌||◌, List, [], ◌∷◌, ◌++◌, eqb, ℤ, pos, negsuc, length, get_or, take, drop}
-use Rattle.whole.specs.Choice.{pick, in_order, kept}
-use Rattle.units.specs.Refusals.{wrong_length, bad_digit, bad_sum, bad_kind}
+use Rattle.std.specs.Prelude.{ℕ, ◌%◌, Bool, false, ◌&&◌, ◌||◌, List, [], ◌∷◌, ◌++◌, Result, eqb, ℤ, pos, negsuc, length, get_or, take, drop}
+use Rattle.whole.specs.Choice.{in_order, kept}
+use Rattle.units.specs.Refusals.{wrong_length, bad_digit, bad_sum, bad_kind, result_by}
+use Rattle.units.specs.declared.refusal.Refusal.{Refusal}
 use Rattle.units.specs.Units.{dollars}
 use Rattle.frame.specs.Digits.{all_digits, digits_of, bytes_of}
 use Rattle.frame.specs.Numbers.{bytes_in, number_of, twos_in, signed_in, byte_sum}
 use Rattle.frame.specs.Kinds.{is_kind, uses_day, uses_hour, uses_amount}
 use Rattle.frame.specs.declared.Entry.{Entry}
-use Rattle.frame.specs.declared.Opened.{Opened}
-use Rattle.frame.specs.declared.Reading.{Reading}
-use Rattle.frame.specs.declared.Reading.TheVariants.{Frame, Refused}
 
 -- ---- any line: its twelve bytes, the last of them the sum of the others
 
@@ -26,11 +24,8 @@ line_tests line = (eqb (length line) line_digits, wrong_length) ∷ (all_digits 
 unfoldable pub line_refusal : List ℕ → ℕ
 line_refusal line = in_order (line_tests line)
 
-abbrev pub zeros : List ℕ
-zeros = 0 ∷ 0 ∷ 0 ∷ 0 ∷ 0 ∷ 0 ∷ 0 ∷ 0 ∷ 0 ∷ 0 ∷ 0 ∷ 0 ∷ []
-
-unfoldable pub opened_of : List ℕ → Opened
-opened_of line = record { refusal = line_refusal line; bytes = kept (line_refusal line) (bytes_of line) zeros }
+unfoldable pub opened_of : List ℕ → Result (List ℕ) Refusal
+opened_of line = result_by (line_refusal line) (bytes_of line)
 
 -- ---- any line, written: eleven bytes and their sum
 
@@ -74,11 +69,8 @@ unfoldable pub read_refusal : List ℕ → ℕ
 read_refusal line = in_order (line_tests line ++ ((in_form (entry_of (bytes_of line)), bad_kind) ∷ []))
 
 -- the reader's answer by the paper's number: 0 is a frame with its entry, any other is that refusal
-abbrev pub reading_by : ℕ → Entry → Reading
-reading_by k entry = pick (eqb k 0) (Frame entry) (Refused k)
-
-unfoldable pub reading_of : List ℕ → Reading
-reading_of line = reading_by (read_refusal line) (entry_of (bytes_of line))
+unfoldable pub reading_of : List ℕ → Result Entry Refusal
+reading_of line = result_by (read_refusal line) (entry_of (bytes_of line))
 
 -- ---- the writer
 

@@ -55,20 +55,21 @@ fn put_bits(second: u16, frequency: u32, power: u32, out: &mut [u8]) -> usize
     ensures text { out.new ≡ with_text out.old 0 (pair_line second frequency power ++ end_of_line) }
 {
     let mut bytes = [b'\n'; 25];
-    pair_frame::write_pair(second, frequency, power, &mut bytes[..24]);
+    let _ = pair_frame::write_pair(second, frequency, power, &mut bytes[..24]);
     text::put(out, 0, &bytes)
 }
 
 // An entry's line with its end.
+#[tactic(auto, using(frame::proofs::Frames::writes), unfolding(crate::specs::Inner::lined_of))]
 fn lined_of(entry: Entry) -> Lined
     ensures { result ≡ lined_of entry }
 {
     let mut bytes = [b'\n'; 25];
-    let k = frame::write_frame(entry, &mut bytes[..24]);
-    Lined {
-        refusal: k,
-        bytes: bytes,
-    }
+    let refusal = match frame::write_frame(entry, &mut bytes[..24]) {
+        Ok(()) => 0,
+        Err(refusal) => refusal.number(),
+    };
+    Lined { refusal, bytes }
 }
 
 // One line, or the number k alone where it refuses.

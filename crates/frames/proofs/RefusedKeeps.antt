@@ -6,11 +6,13 @@ use lib.IntN.{ℤ}
 use Rattle.whole.specs.Choice.{or_else}
 use Rattle.whole.specs.Refused.{RefusedBare}
 use Rattle.whole.proofs.Choice.{kept_old}
-use Rattle.whole.proofs.Refused.{refused_bare}
+use Rattle.std.specs.Prelude.{Result, Ok, Err}
+use Rattle.units.specs.declared.refusal.Refusal.{Refusal}
+use Rattle.loss.specs.declared.LossFee.{LossFee}
 use Rattle.words.specs.declared.Framing.{Framing}
 use Rattle.words.specs.declared.Framing.TheVariants.{DregFrame, EdregFrame, SregFrame, Frame, LossFrames}
 use Rattle.hours.specs.Hours.{HourNumbers}
-use Rattle.frames.specs.Frames.{entry_refusal, no_entry, single, framed_by, frame_asked, hour_post, loss_asked, loss_frames, frame_answer}
+use Rattle.frames.specs.Frames.{entry_refusal, no_entry, single, framed_by, frame_asked, hour_post, loss_asked, fee_frames, loss_frames, frame_answer}
 use Rattle.frames.specs.declared.Framed.{Framed}
 use Rattle.frames.proofs.answer.Reads as answer
 use Rattle.frames.proofs.answer.Kinds as answer_kinds
@@ -24,14 +26,17 @@ unfolding framed_by
 framed_bare before kind day hour amount f =
     ap (single (or_else before (entry_refusal kind day hour))) (kept_old _ _ f)
 
+fees_bare : (a : Result LossFee Refusal) → ((fee_frames a).refusal ≡ 0 → ⊥) → fee_frames a ≡ bare (fee_frames a).refusal
+fees_bare (Ok l) f = absurd (f refl)
+fees_bare (Err r) f = refl
+
 answer_bare : (asks : Framing) (n : List ℤ) (given : HourNumbers) → (let x = frame_answer asks n given in (x.refusal ≡ 0 → ⊥) → x ≡ bare x.refusal)
 unfolding frame_asked hour_post loss_frames
 answer_bare DregFrame n given f = framed_bare _ _ _ _ _ f
 answer_bare EdregFrame n given f = framed_bare _ _ _ _ _ f
 answer_bare SregFrame n given f = framed_bare _ _ _ _ _ f
 answer_bare Frame n given f = framed_bare _ _ _ _ _ f
-answer_bare LossFrames n given f =
-    refused_bare (λ (x : Framed). x.refusal) bare (loss_asked n).refusal _ refl refl refl f
+answer_bare LossFrames n given f = fees_bare (loss_asked n) f
 
 answer_refused_keeps : RefusedBare 3 answer_kinds.ps answer_kinds.r (λ κs x. x.refusal) (λ κs a k. bare k) answer.Post
 answer_refused_keeps κs a x s p f =

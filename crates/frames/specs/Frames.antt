@@ -1,7 +1,8 @@
 -- The questions that print a frame, or two: the entries that they hold (docs/DESK.md, "Questions").
-use Rattle.std.specs.Prelude.{ℕ, true, false, ◌&&◌, List, [], ◌∷◌, ℤ, pos}
+use Rattle.std.specs.Prelude.{ℕ, true, false, ◌&&◌, List, [], ◌∷◌, Result, Ok, Err, ℤ, pos}
 use Rattle.whole.specs.Choice.{in_order, or_else, kept}
-use Rattle.units.specs.Refusals.{not_in_month, bad_kind}
+use Rattle.units.specs.Refusals.{not_in_month, bad_kind, paper_number}
+use Rattle.units.specs.declared.refusal.Refusal.{Refusal}
 use Rattle.units.specs.Units.{dollars}
 use Rattle.units.specs.declared.Dollars.{Dollars}
 use Rattle.frame.specs.Kinds.{post_kind, basic_fee_kind, excess_fee_kind}
@@ -48,15 +49,15 @@ abbrev pub fee_entry : ℕ → Dollars → Entry
 fee_entry kind fee = record { kind = kind; day = 0; hour = 0; amount = fee }
 
 -- CHARGED DISCHARGED VOLTAGE COST (document 02, #101): the frame that sets the basic fee, and the one that sets the excess fee
-abbrev pub loss_asked : List ℤ → LossFee
+abbrev pub loss_asked : List ℤ → Result LossFee Refusal
 loss_asked n = loss_answer (number n 0) (number n 1) (number n 2) (number n 3)
 
+abbrev pub fee_frames : Result LossFee Refusal → Framed
+fee_frames (Ok l) = record { refusal = 0; entry = fee_entry basic_fee_kind l.basic; paired = true; second = fee_entry excess_fee_kind l.excess }
+fee_frames (Err r) = single (paper_number r) no_entry
+
 unfoldable pub loss_frames : List ℤ → Framed
-loss_frames n =
-    let a = loss_asked n in
-    kept a.refusal
-    (record { refusal = 0; entry = fee_entry basic_fee_kind a.basic; paired = true; second = fee_entry excess_fee_kind a.excess })
-    (single a.refusal no_entry)
+loss_frames n = fee_frames (loss_asked n)
 
 abbrev pub frame_answer : Framing → List ℤ → HourNumbers → Framed
 frame_answer DregFrame n given = hour_post Dreg n given

@@ -95,8 +95,8 @@ fn single(refusal: u8, entry: Entry) -> Framed
     ensures { result ≡ single refusal entry }
 {
     Framed {
-        refusal: refusal,
-        entry: entry,
+        refusal,
+        entry,
         paired: false,
         second: no_entry(),
     }
@@ -113,7 +113,7 @@ fn fee_entry(kind: u8, fee: Dollars) -> Entry
     ensures { result ≡ fee_entry kind fee }
 {
     Entry {
-        kind: kind,
+        kind,
         day: 0,
         hour: 0,
         amount: fee,
@@ -127,19 +127,17 @@ fn asked(head: [i64; 12]) -> Framed
 }
 
 // The frames that set the two loss fees.
+#[tactic(auto, unfolding(crate::specs::Frames::loss_frames))]
 fn loss_frames(head: [i64; 12]) -> Framed
     ensures { result ≡ loss_frames head }
 {
-    let loss = loss::loss_fee(head[0], head[1], head[2], head[3]);
-    let basic = loss.basic;
-    let excess = loss.excess;
-    if loss.refusal != 0 {
-        return single(loss.refusal, no_entry());
-    }
-    Framed {
-        refusal: 0,
-        entry: fee_entry(kinds::BASIC_FEE, basic),
-        paired: true,
-        second: fee_entry(kinds::EXCESS_FEE, excess),
+    match loss::loss_fee(head[0], head[1], head[2], head[3]) {
+        Ok(loss) => Framed {
+            refusal: 0,
+            entry: fee_entry(kinds::BASIC_FEE, loss.basic),
+            paired: true,
+            second: fee_entry(kinds::EXCESS_FEE, loss.excess),
+        },
+        Err(refusal) => single(refusal.number(), no_entry()),
     }
 }

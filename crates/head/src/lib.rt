@@ -3,12 +3,13 @@
 #![tactic(auto)]
 
 ghost use Rattle.std.specs.Prelude.{◌≡◌};
-ghost use Rattle.units.specs.Limits.{is_days};
+ghost use Rattle.units.specs.Limits.{is_days, is_loss_fee};
+ghost use Rattle.units.specs.Refusals.{result_by};
 ghost use Rattle.history.specs.Rules.{Call, places_of};
-ghost use Rattle.head.specs.Rules.{Fee, loss_fee_refusal, month_rules};
-ghost use Rattle.head.specs.Inner.{place_of, fresh_head, opened_head, head_fits, headed_of, with_fees};
+ghost use Rattle.head.specs.Rules.{Fee, month_rules};
+ghost use Rattle.head.specs.Inner.{place_of, fresh_head, opened_head, head_fits, head_refusal, headed_of, with_fees};
 
-use units::{Dollars, limits, refusals};
+use units::{Dollars, Refusal, limits};
 
 // A month without its places.
 #[derive(Clone, Copy)]
@@ -17,13 +18,6 @@ pub struct Head {
     pub closed: bool,
     pub basic: Dollars,
     pub excess: Dollars,
-}
-
-// What a call on the head answers: its refusal, and the head that it hands back.
-#[derive(Clone, Copy)]
-pub struct Headed {
-    pub refusal: u8,
-    pub head: Head,
 }
 
 // How many places the hours of a month of that many days have.
@@ -46,83 +40,62 @@ pub fn place_of(day: u8, hour: u8) -> usize
 }
 
 // The head of a fresh month of 28 to 31 days.
-pub fn open(days: u8) -> Headed
+#[tactic(auto, unfolding(crate::specs::Inner::opened_head))]
+pub fn open(days: u8) -> Result<Head, Refusal>
     ensures { result ≡ opened_head days }
 {
-    if is_days(days) {
-        return Headed {
-            refusal: 0,
-            head: fresh_head(days),
-        };
+    if !is_days(days) {
+        return Err(Refusal::NotInMonth);
     }
-    Headed {
-        refusal: refusals::NOT_IN_MONTH,
-        head: fresh_head(0),
-    }
+    Ok(fresh_head(days))
 }
 
 // What a head shows of refusal 22: its days and its fees.
 pub fn fits(head: Head) -> bool
     ensures { result ≡ head_fits head }
 {
-    let basic = head.basic;
-    let excess = head.excess;
-    is_days(head.days) & (loss_fee_refusal(basic) == 0) & (loss_fee_refusal(excess) == 0)
+    is_days(head.days) & is_loss_fee(head.basic) & is_loss_fee(head.excess)
 }
 
 // Sets the basic fee, which replaces the former; the excess fee stays.
-pub fn set_basic_fee(head: Head, amount: Dollars) -> Headed
+#[tactic(auto, using(crate::proofs::Heads::fee_set_lem))]
+pub fn set_basic_fee(head: Head, amount: Dollars) -> Result<Head, Refusal>
     ensures { result ≡ headed_of head (Call.loss_fee Fee.basic amount.0) }
 {
-    let excess = head.excess;
-    with_fees(head, amount, amount, excess)
+    with_fees(head, amount, amount, head.excess)
 }
 
 // Sets the excess fee, which replaces the former; the basic fee stays.
-pub fn set_excess_fee(head: Head, amount: Dollars) -> Headed
+#[tactic(auto, using(crate::proofs::Heads::fee_set_lem))]
+pub fn set_excess_fee(head: Head, amount: Dollars) -> Result<Head, Refusal>
     ensures { result ≡ headed_of head (Call.loss_fee Fee.excess amount.0) }
 {
-    let basic = head.basic;
-    with_fees(head, amount, basic, amount)
+    with_fees(head, amount, head.basic, amount)
 }
 
 // Closes the month.
-pub fn close(head: Head) -> Headed
+#[tactic(auto, using(units::proofs::Numbered::let_through), unfolding(crate::specs::Inner::headed_of, history::specs::Board::ruling_on, history::specs::Board::next_on))]
+pub fn close(head: Head) -> Result<Head, Refusal>
     ensures { result ≡ headed_of head Call.close }
 {
-    let open = whole::unless(!head.closed, refusals::MONTH_CLOSED, 0);
-    let k = whole::unless(fits(head), refusals::NOT_REACHABLE, open);
-    if k == 0 {
-        let basic = head.basic;
-        let excess = head.excess;
-        let next = Head {
-            days: head.days,
-            closed: true,
-            basic: basic,
-            excess: excess,
-        };
-        return Headed {
-            refusal: k,
-            head: next,
-        };
-    }
-    Headed {
-        refusal: k,
-        head: head,
-    }
+    may_change(head)?;
+    Ok(Head {
+        closed: true,
+        ..head
+    })
 }
 
 fn is_days(days: u8) -> bool
     ensures { result ≡ is_days days }
 {
-    (limits::LEAST_DAYS <= days) & (days <= limits::MOST_DAYS)
+    (limits::LEAST_DAYS..=limits::MOST_DAYS).contains(&days)
 }
 
 fn fresh_head(days: u8) -> Head
     ensures { result ≡ fresh_head days }
 {
     Head {
-        days: days,
+        days,
         closed: false,
         basic: Dollars(0),
         excess: Dollars(0),
@@ -130,36 +103,37 @@ fn fresh_head(days: u8) -> Head
 }
 
 // A fee is set, and these are then the two: 22, 9, 3 for the one that is set.
-fn with_fees(head: Head, set: Dollars, basic: Dollars, excess: Dollars) -> Headed
+#[tactic(auto, using(history::proofs::Orders::own_last, crate::proofs::Heads::fee_refused, units::proofs::Numbered::let_through), unfolding(crate::specs::Inner::with_fees, history::specs::Board::ruling_on))]
+fn with_fees(head: Head, set: Dollars, basic: Dollars, excess: Dollars) -> Result<Head, Refusal>
     ensures { result ≡ with_fees head set.0 basic excess }
 {
-    let open = whole::unless(!head.closed, refusals::MONTH_CLOSED, loss_fee_refusal(set));
-    let k = whole::unless(fits(head), refusals::NOT_REACHABLE, open);
-    if k == 0 {
-        let next = Head {
-            days: head.days,
-            closed: head.closed,
-            basic: basic,
-            excess: excess,
-        };
-        return Headed {
-            refusal: k,
-            head: next,
-        };
+    may_change(head)?;
+    if !is_loss_fee(set) {
+        return Err(Refusal::BadMoney);
     }
-    Headed {
-        refusal: k,
-        head: head,
-    }
+    Ok(Head {
+        basic,
+        excess,
+        ..head
+    })
 }
 
-fn loss_fee_refusal(fee: Dollars) -> u8
-    ensures { result ≡ loss_fee_refusal fee.0 }
+// What keeps a head as it is, whatever is to change: 22, 9.
+#[tactic(auto, unfolding(history::specs::Board::ruling_on))]
+fn may_change(head: Head) -> Result<(), Refusal>
+    ensures { result ≡ result_by (head_refusal head Call.close) tt }
 {
-    let a = fee.0;
-    whole::unless(
-        whole::within(a, 0, limits::LOSS_FEE),
-        refusals::BAD_MONEY,
-        0,
-    )
+    if !fits(head) {
+        return Err(Refusal::NotReachable);
+    }
+    if head.closed {
+        return Err(Refusal::MonthClosed);
+    }
+    Ok(())
+}
+
+fn is_loss_fee(fee: Dollars) -> bool
+    ensures { result ≡ is_loss_fee fee.0 }
+{
+    whole::within(fee.0, 0, limits::LOSS_FEE)
 }

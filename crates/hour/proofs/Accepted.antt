@@ -29,7 +29,9 @@ use Rattle.rate.specs.Accepted.{ScoresFit}
 use Rattle.rate.specs.declared.Rated.{Rated}
 use Rattle.rate.proofs.Rates.{are_scores_lem, rate_granted, rate_within}
 use Rattle.bands.specs.Bands.{first_place, bands_refusal, factor_answer}
-use Rattle.bands.specs.declared.Factored.{Factored}
+use Rattle.std.specs.Prelude.{Result}
+use Rattle.std.specs.Result.{result_unwrap_or}
+use Rattle.units.specs.declared.refusal.Refusal.{Refusal}
 use Rattle.bands.proofs.Laws.{lookup_passes, factor_granted, factor_inside}
 use Rattle.fees.specs.Fees.{fee, fee_answer, quality_part, quality_answer, charge_of}
 use Rattle.fees.specs.declared.Charged.{Charged}
@@ -137,10 +139,10 @@ module _ (h : WholeHour) (places : ℕ) (f : HourFits h places) (five : Five h.s
   rate_plain : rate_of h ≡ smallest (rolling h.earlier (scores_of h))
   rate_plain = ap (λ (x : Rated). x.rate) (rate_granted h.earlier (scores_of h) hour_scores_fit)
 
-  pub factor_plain : (rate : ℕ) → rate ≤ most_score → (factor_answer h.thresholds h.factors rate).factor ≡ get_or h.factors (first_place h.thresholds (pos rate)) (pos 0)
+  pub factor_plain : (rate : ℕ) → rate ≤ most_score → (result_unwrap_or (factor_answer h.thresholds h.factors rate) (pos 0)) ≡ get_or h.factors (first_place h.thresholds (pos rate)) (pos 0)
   unfolding bands_refusal
   factor_plain rate l =
-      ap (λ (x : Factored). x.factor) (factor_granted h.thresholds h.factors rate (lookup_passes h.thresholds h.factors rate (rw f.bands) l))
+      ap (λ (x : Result ℤ Refusal). result_unwrap_or x (pos 0)) (factor_granted h.thresholds h.factors rate (lookup_passes h.thresholds h.factors rate (rw f.bands) l))
 
   -- ---- the fees
 
@@ -166,7 +168,7 @@ module _ (h : WholeHour) (places : ℕ) (f : HourFits h places) (five : Five h.s
         factor = factor_plain rate (rate_within h.earlier (scores_of h));
         capacity = fee_plain h.terms.clearing prices.0;
         performance = fee_plain h.terms.performance prices.1;
-        quality = quality_plain (factor_answer h.thresholds h.factors rate).factor (factor_inside h.thresholds h.factors rate);
+        quality = quality_plain (result_unwrap_or (factor_answer h.thresholds h.factors rate) (pos 0)) (factor_inside h.thresholds h.factors rate);
         energy = energy_plain h.powers h.service lengths.of_powers readings.0 prices.2 f.targets five;
         amount = refl;
       }

@@ -17,7 +17,8 @@ use Rattle.whole.proofs.Choice.{and_both, by_test, all_passed, passed_all, in_or
 use Rattle.whole.proofs.Runs.{length_listed}
 use Rattle.whole.proofs.Signed.{within_fits}
 use Rattle.whole.proofs.Sums.{within_in, inside_all}
-use Rattle.units.specs.Refusals.{bad_reading}
+use Rattle.std.specs.Prelude.{is_ok}
+use Rattle.units.specs.Refusals.{bad_reading, result_by}
 use Rattle.units.specs.Limits.{is_capacity, is_reference, is_price, most_score, are_transfers, most_transfer, most_amount, is_amount, seconds_of_hour}
 use Rattle.units.specs.declared.Dollars.{Dollars}
 use Rattle.ramp.proofs.Laws.{plan_at, length_plan, plan_inside}
@@ -53,7 +54,7 @@ pub long_of : (h : WholeHour) (places : ℕ) → lengths_fit (length h.powers) (
 long_of h places e = long (length h.powers) (length h.frequencies) (length h.earlier) places e
 
 -- the bands' call refuses just what does not fit
-pub bands_test : (thresholds factors : List ℤ) → eqb (bands_refusal thresholds factors) 0 ≡ bands_fit thresholds factors
+pub bands_test : (thresholds factors : List ℤ) → is_ok (result_by (bands_refusal thresholds factors) (tt {0})) ≡ bands_fit thresholds factors
 unfolding bands_refusal
 bands_test ts fs = by_test (bands_fit ts fs) (λ (t : bands_fit ts fs ≡ true). rw t) (λ (t : bands_fit ts fs ≡ false). rw t)
 

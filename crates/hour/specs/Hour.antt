@@ -8,6 +8,7 @@ use Rattle.units.specs.Units.{dollars}
 use Rattle.units.specs.declared.Dollars.{Dollars}
 use Rattle.units.specs.declared.Millihertz.{Millihertz}
 use Rattle.ramp.specs.Ramp.{plan_of}
+use Rattle.std.specs.Result.{result_unwrap_or}
 use Rattle.bands.specs.Bands.{bands_fit, factor_answer}
 use Rattle.score.specs.Run.{run_scores}
 use Rattle.rate.specs.Rolling.{earlier_fit, are_scores, hourly_rate}
@@ -150,7 +151,7 @@ refused_hour k =
 -- an hour by its energy service fee and its rate. "Amount: quality part plus energy service fee."
 unfoldable pub settled_of : Terms → List ℤ → List ℤ → Dollars → ℕ → Settlement
 settled_of terms thresholds factors energy rate =
-    let factor = (factor_answer thresholds factors rate).factor in
+    let factor = result_unwrap_or (factor_answer thresholds factors rate) (pos 0) in
     let capacity = (fee_answer terms.clearing terms.capacity).dollars in
     let performance = (fee_answer terms.performance terms.capacity).dollars in
     let quality = (quality_answer capacity performance factor).dollars in

@@ -1,17 +1,12 @@
 // The hour, dReg or E-dReg: its refusals in order, its scores, its rate and its fees.
 #![tactic(auto)]
 
-ghost use Rattle.std.specs.Prelude.{◌≡◌, true, ◌&&◌, ◌+ℤ◌, length, take, drop};
-ghost use Rattle.std.specs.Int.{w64};
-ghost use Rattle.std.proofs.Common.{SFits};
+ghost use Rattle.std.specs.Prelude.{◌≡◌, true, ◌&&◌, length, take, drop};
 ghost use Rattle.whole.specs.Whole.{Within};
 ghost use Rattle.units.specs.Limits.{is_capacity, is_reference, is_price};
-ghost use Rattle.units.specs.Units.{dollars};
-ghost use Rattle.fees.specs.Fees.{fee_answer, quality_answer, energy_answer, most_energy_fee};
-ghost use Rattle.bands.specs.Bands.{factor_answer};
+ghost use Rattle.fees.specs.Fees.{energy_answer, most_energy_fee};
 ghost use Rattle.ramp.specs.Ramp.{plan_of};
-ghost use Rattle.rate.specs.Rolling.{hourly_rate};
-ghost use Rattle.hour.specs.Hour.{terms_refusal, edreg, dreg_hour, edreg_hour, energy_of, energy_prices_fit, targets_fit, lengths_fit, scores_left, granted_hour, refused_hour, settled_of, hour_answer, at_refusal, settled_at};
+ghost use Rattle.hour.specs.Hour.{terms_refusal, edreg, dreg_hour, edreg_hour, energy_of, energy_prices_fit, targets_fit, lengths_fit, scores_left, refused_hour, settled_of, hour_answer, at_refusal, settled_at};
 ghost use Rattle.hour.specs.Inner.{worked_of, worked_left};
 
 use units::{Dollars, Kilowatts, Millihertz, limits, refusals};
@@ -154,6 +149,7 @@ fn at_refusal(terms: Terms, thresholds: &[i64], factors: &[i64], rate: u8) -> u8
 }
 
 // A refused hour, for the joint call too: its number, and zeros.
+#[tactic(auto, unfolding(crate::specs::Hour::refused_hour))]
 pub fn refused_hour(number: u8) -> Settlement
     ensures { result ≡ refused_hour number }
 {
@@ -188,7 +184,7 @@ pub fn terms_refusal(
     ensures { result ≡ terms_refusal powers frequencies earlier places terms referred thresholds.now factors.now priced planned }
 {
     let targets = whole::unless(planned, refusals::BAD_TRANSFER, 0);
-    let banded = bands::check(thresholds, factors) == 0;
+    let banded = bands::check(thresholds, factors).is_ok();
     let bands = whole::unless(banded, refusals::BAD_BANDS, targets);
     let money = prices_fit(terms.clearing, terms.performance) & priced;
     let prices = whole::unless(money, refusals::BAD_MONEY, bands);
@@ -207,16 +203,13 @@ fn prices_fit(first: i64, second: i64) -> bool
 fn capacity_fits(terms: Terms) -> bool
     ensures { result ≡ is_capacity terms.capacity.0 }
 {
-    let capacity = terms.capacity;
-    let size = capacity.0;
-    whole::within(size, 1, limits::CAPACITY)
+    whole::within(terms.capacity.0, 1, limits::CAPACITY)
 }
 
 fn reference_fits(reference: Millihertz) -> bool
     ensures { result ≡ is_reference reference.0 }
 {
-    let around = reference.0;
-    whole::within(around, limits::LEAST_REFERENCE, limits::MOST_REFERENCE)
+    whole::within(reference.0, limits::LEAST_REFERENCE, limits::MOST_REFERENCE)
 }
 
 fn lengths_fit(powers: usize, frequencies: usize, earlier: usize, places: usize) -> bool
@@ -260,7 +253,8 @@ fn worked(
     if number != 0 {
         return refused_hour(number);
     }
-    settled(terms, thresholds, factors, energy, rate_of(earlier, scores))
+    let rate = rate::hourly_rate(earlier, scores).rate;
+    settled(terms, thresholds, factors, energy, rate)
 }
 
 // The factor and the fees of an hour by its rate.
@@ -274,81 +268,20 @@ fn settled(
     requires { Within most_energy_fee energy.0 }
     ensures { result ≡ settled_of terms thresholds.now factors.now energy rate }
 {
-    let factor = factor_of(thresholds, factors, rate);
-    let capacity = fee_of(terms.clearing, terms.capacity);
-    let performance = fee_of(terms.performance, terms.capacity);
-    let quality = quality_of(capacity, performance, factor);
-    granted_hour(
+    let factor = bands::factor(thresholds, factors, rate).unwrap_or(0);
+    let capacity = fees::fee(terms.clearing, terms.capacity).dollars;
+    let performance = fees::fee(terms.performance, terms.capacity).dollars;
+    let quality = fees::quality_part(capacity, performance, factor).dollars;
+    Settlement {
+        refusal: 0,
         rate,
         factor,
         capacity,
         performance,
         quality,
         energy,
-        plus(quality, energy),
-    )
-}
-
-fn rate_of(earlier: &[u8], scores: &[u8]) -> u8
-    ensures { result ≡ (hourly_rate earlier.now scores.now).rate }
-{
-    let rated = rate::hourly_rate(earlier, scores);
-    rated.rate
-}
-
-fn factor_of(thresholds: &[i64], factors: &[i64], rate: u8) -> i64
-    ensures { result ≡ (factor_answer thresholds.now factors.now rate).factor }
-{
-    let factored = bands::factor(thresholds, factors, rate);
-    let factor = factored.factor;
-    factor
-}
-
-fn fee_of(price: i64, capacity: Kilowatts) -> Dollars
-    ensures { result ≡ (fee_answer price capacity).dollars }
-{
-    let charged = fees::fee(price, capacity);
-    charged.dollars
-}
-
-fn quality_of(capacity: Dollars, performance: Dollars, factor: i64) -> Dollars
-    ensures { result ≡ (quality_answer capacity performance factor).dollars }
-{
-    let charged = fees::quality_part(capacity, performance, factor);
-    charged.dollars
-}
-
-// The answer of an hour that is not refused.
-fn granted_hour(
-    rate: u8,
-    factor: i64,
-    capacity: Dollars,
-    performance: Dollars,
-    quality: Dollars,
-    energy: Dollars,
-    amount: Dollars,
-) -> Settlement
-    ensures { result ≡ granted_hour rate factor capacity performance quality energy amount }
-{
-    Settlement {
-        refusal: 0,
-        rate: rate,
-        factor: factor,
-        capacity: capacity,
-        performance: performance,
-        quality: quality,
-        energy: energy,
-        amount: amount,
+        amount: Dollars(quality.0 + energy.0),
     }
-}
-
-fn plus(quality: Dollars, energy: Dollars) -> Dollars
-    requires { SFits w64 (quality.0 +ℤ energy.0) }
-    ensures { result ≡ dollars (quality.0 +ℤ energy.0) }
-{
-    let part = quality.0;
-    let service = energy.0;
-    Dollars(part + service)
 }
 
 // `terms_refusal`, with the reference and what is shifted.
@@ -398,7 +331,7 @@ fn shifted(
     ensures leaves { scores.new ≡ worked_left powers.now frequencies.now (plan_of shift.targets) terms.capacity reference earlier.now scores.old }
 {
     let mut transfers = [0i64; limits::SECONDS];
-    ramp::plan(&shift.targets, &mut transfers);
+    let _ = ramp::plan(&shift.targets, &mut transfers);
     let discharge = shift.discharge;
     let charge = shift.charge;
     let energy = energy_of(powers, &shift.targets, discharge, charge);
@@ -421,6 +354,5 @@ fn energy_of(powers: &[i64], targets: &[i64], discharge: i64, charge: i64) -> Do
     requires { length targets.now ≡ 5 }
     ensures { result ≡ (energy_answer powers.now (take 4 (drop 1 targets.now)) discharge charge).dollars }
 {
-    let charged = fees::energy_fee(powers, &targets[1..5], discharge, charge);
-    charged.dollars
+    fees::energy_fee(powers, &targets[1..5], discharge, charge).dollars
 }

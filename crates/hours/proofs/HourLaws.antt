@@ -254,10 +254,6 @@ pub scores_all : (h : Basis) → (settlement h).refusal ≡ 0 → length (scores
 scores_all h z =
     by_test h.fits (λ (t : h.fits ≡ true). long_by h.asked h.state h.hour seconds_of_hour (sym (settlement_number h t) ∙ z)) (λ (t : h.fits ≡ false). absurd (not_none h t z))
 
-pub left_long : (h : Basis) (run : List ℕ) → length run ≡ seconds_of_hour → length (scores_after h run) ≡ seconds_of_hour
-unfolding scores_after
-left_long h run l = kept_any (λ (s : List ℕ). length s ≡ seconds_of_hour) (settlement h).refusal (scores_all h) l
-
 -- an answer has at most twelve fields
 few_by : (hour : words.Hour) (a : Settled) → length (hour_shown hour a).fields ≤ 12
 few_by Dreg a = omega arith

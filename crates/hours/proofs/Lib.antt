@@ -2,3 +2,4 @@
 pub mod HourLaws
 mod Determined
 mod RefusedKeeps
+pub mod States

@@ -31,8 +31,7 @@ pub fn settle(
     ensures answers { result ≡ settlement (hour_asked hour (hour_numbers terms bands.now counted earlier.now readings.now)) }
     ensures leaves { scores.new ≡ scores_after (hour_asked hour (hour_numbers terms bands.now counted earlier.now readings.now)) scores.old }
 {
-    let settled = settle_asked(hour, terms, bands, counted, earlier, readings, scores);
-    settled.hour
+    settle_asked(hour, terms, bands, counted, earlier, readings, scores).hour
 }
 
 // THE FAMILY: the answer to a question about a whole hour.
@@ -48,31 +47,24 @@ pub fn answer(
 {
     let mut scores = [0u8; limits::SECONDS];
     let asked = settle_asked(hour, terms, bands, counted, earlier, readings, &mut scores);
-    let settled = asked.hour;
-    let after = asked.state;
-    shown(hour, settled, state_fields(after))
+    shown(hour, asked.hour, state_fields(asked.state))
 }
 
 // The fields of an answer: the settlement's, and for sReg the state's.
 fn shown(hour: Hour, settled: Settlement, state: [i64; 3]) -> Few
     ensures { result ≡ in_twelve hour settled state }
 {
-    let capacity = settled.capacity;
-    let performance = settled.performance;
-    let quality = settled.quality;
-    let energy = settled.energy;
-    let amount = settled.amount;
     Few {
         refusal: settled.refusal,
         count: fields_shown(hour),
         values: [
-            settled.rate as i64,
+            i64::from(settled.rate),
             settled.factor,
-            capacity.0,
-            performance.0,
-            quality.0,
-            energy.0,
-            amount.0,
+            settled.capacity.0,
+            settled.performance.0,
+            settled.quality.0,
+            settled.energy.0,
+            settled.amount.0,
             state[0],
             state[1],
             state[2],
@@ -118,8 +110,7 @@ fn state_numbers(hour: Hour) -> usize
     ensures most { result ≤ 3 }
 {
     match hour {
-        Hour::Dreg => 0,
-        Hour::Edreg => 0,
+        Hour::Dreg | Hour::Edreg => 0,
         Hour::Sreg => 3,
     }
 }
@@ -128,11 +119,7 @@ fn state_numbers(hour: Hour) -> usize
 fn seconds_in(hour: Hour, readings: &[i64]) -> &[i64]
     ensures { result.now ≡ drop (state_numbers hour) readings.now }
 {
-    let n = state_numbers(hour);
-    if n <= readings.len() {
-        return &readings[n..];
-    }
-    &readings[..0]
+    readings.get(state_numbers(hour)..).unwrap_or(&[])
 }
 
 // The state that an sReg hour is handed; `Outside` for the others, which take none.
@@ -140,8 +127,7 @@ fn state_in(hour: Hour, readings: &[i64]) -> EventState
     ensures { result ≡ state_handed hour readings.now }
 {
     match hour {
-        Hour::Dreg => EventState::Outside,
-        Hour::Edreg => EventState::Outside,
+        Hour::Dreg | Hour::Edreg => EventState::Outside,
         Hour::Sreg => state_asked(
             whole::at(readings, 0),
             whole::at(readings, 1),
@@ -152,35 +138,24 @@ fn state_in(hour: Hour, readings: &[i64]) -> EventState
 
 // The state of a kind, with its power and its count. Another kind, and a number that the kind does not use and is not
 // 0, make one that no hour ends in.
+#[tactic(auto, using(crate::proofs::States::stating))]
 fn state_asked(kind: i64, power: i64, count: i64) -> EventState
     ensures { result ≡ state_asked kind power count }
 {
-    let n = numbers::byte_of(count);
-    if equals(kind, 0) & equals(power, 0) & equals(count, 0) {
-        return EventState::Outside;
-    }
-    if equals(kind, 1) {
-        return EventState::Responding {
+    match (kind, power, count) {
+        (0, 0, 0) => EventState::Outside,
+        (1, ..) => EventState::Responding {
             start: Kilowatts(power),
-            scored: n,
-        };
-    }
-    if equals(kind, 2) & equals(count, 0) {
-        return EventState::Holding {
+            scored: numbers::byte_of(count),
+        },
+        (2, _, 0) => EventState::Holding {
             start: Kilowatts(power),
-        };
+        },
+        (3, 0, _) => EventState::Recovering {
+            left: numbers::byte_of(count),
+        },
+        _ => EventState::Recovering { left: 0 },
     }
-    if equals(kind, 3) & equals(power, 0) {
-        return EventState::Recovering { left: n };
-    }
-    EventState::Recovering { left: 0 }
-}
-
-// A range of one number: of whole numbers of either sign it is the test that has its laws.
-fn equals(z: i64, n: i64) -> bool
-    ensures { result ≡ equals z n }
-{
-    whole::within(z, n, n)
 }
 
 // A state as its kind, its power and its count.
@@ -189,9 +164,9 @@ fn state_fields(state: EventState) -> [i64; 3]
 {
     match state {
         EventState::Outside => [0, 0, 0],
-        EventState::Responding { start, scored } => [1, start.0, scored as i64],
+        EventState::Responding { start, scored } => [1, start.0, i64::from(scored)],
         EventState::Holding { start } => [2, start.0, 0],
-        EventState::Recovering { left } => [3, 0, left as i64],
+        EventState::Recovering { left } => [3, 0, i64::from(left)],
     }
 }
 
@@ -200,8 +175,7 @@ fn fields_shown(hour: Hour) -> usize
     ensures { result ≡ fields_shown hour }
 {
     match hour {
-        Hour::Dreg => 7,
-        Hour::Edreg => 7,
+        Hour::Dreg | Hour::Edreg => 7,
         Hour::Sreg => 10,
     }
 }
@@ -269,8 +243,6 @@ fn settle_bands(
     numbers::column(bands, false, &mut thresholds);
     numbers::column(bands, true, &mut factors);
     let n = pairs_in(bands.len());
-    let count = before.count;
-    let earlier = before.scores;
     settle_kind(
         hour,
         powers,
@@ -281,18 +253,18 @@ fn settle_bands(
         state,
         &thresholds[..n],
         &factors[..n],
-        &earlier[..count],
+        &before.scores[..before.count],
         scores,
     )
 }
 
 // How many pairs are taken of so many numbers.
+#[tactic(auto, unfolding(crate::specs::Inner::pairs_in))]
 fn pairs_in(numbers: usize) -> usize
     ensures is { result ≡ pairs_in numbers }
     ensures most { result ≤ 100 }
 {
-    let n = numbers / 2;
-    if 100 < n { 100 } else { n }
+    (numbers / 2).min(100)
 }
 
 // Settles an hour of any kind; sReg reads no reference, what is shifted is read for E-dReg alone, the state for sReg
@@ -364,8 +336,7 @@ fn prices_at(hour: Hour) -> usize
     ensures most { result ≤ 2 }
 {
     match hour {
-        Hour::Dreg => 2,
-        Hour::Edreg => 2,
+        Hour::Dreg | Hour::Edreg => 2,
         Hour::Sreg => 1,
     }
 }
@@ -381,12 +352,12 @@ fn terms_of(hour: Hour, numbers: [i64; 12]) -> Terms
     }
 }
 
+#[tactic(auto, unfolding(crate::specs::Hours::reference_of))]
 fn reference_of(hour: Hour, numbers: [i64; 12]) -> Millihertz
     ensures { result ≡ reference_of hour numbers }
 {
     match hour {
-        Hour::Dreg => Millihertz(numbers[1]),
-        Hour::Edreg => Millihertz(numbers[1]),
+        Hour::Dreg | Hour::Edreg => Millihertz(numbers[1]),
         Hour::Sreg => Millihertz(limits::NOMINAL),
     }
 }

@@ -22,9 +22,12 @@ use Rattle.head.proofs.Sound.{month_sound}
 use Rattle.board.proofs.Sums.{ledger_form}
 use Rattle.frame.specs.Kinds.{open_kind}
 use Rattle.frame.specs.Frame.{reading_of}
+use Rattle.std.specs.Prelude.{Ok}
+use Rattle.units.specs.Units.{dollars}
+use Rattle.board.specs.Board.{told_of}
 use Rattle.frame.specs.declared.Entry.{Entry}
-use Rattle.frame.specs.declared.Reading.{Reading}
-use Rattle.frame.specs.declared.Reading.TheVariants.{Frame, Refused}
+use Rattle.std.specs.Prelude.{Result, Ok, Err}
+use Rattle.units.specs.declared.refusal.Refusal.{Refusal}
 use Rattle.book.specs.Book.{Book, call_of, open_refusal, open_book, call_book, asked_book, frame_book, book_in}
 use Rattle.intake.specs.Answers.{most_lines, book_after, book_after_all, book_total}
 use Rattle.intake.specs.Inner.{book_refusal, feed_refusal, end_refusal}
@@ -95,9 +98,9 @@ frame_kept book e k =
     (λ (t : eqb e.kind open_kind ≡ true). rw t (open_kept book e.day k))
     (λ (t : eqb e.kind open_kind ≡ false). rw t (asked_kept book (call_of e) k))
 
-in_kept : (book : Book) (r : Reading) → book_refusal book ≡ 0 → book_refusal (book_in book r) ≡ 0
-in_kept book (Frame e) k = frame_kept book e k
-in_kept book (Refused n) k = k
+in_kept : (book : Book) (r : Result Entry Refusal) → book_refusal book ≡ 0 → book_refusal (book_in book r) ≡ 0
+in_kept book (Ok e) k = frame_kept book e k
+in_kept book (Err r) k = k
 
 after_kept : (book : Book) (l : List ℕ) → book_refusal book ≡ 0 → book_refusal (book_after book l) ≡ 0
 unfolding book_after
@@ -111,6 +114,10 @@ all_kept book [] k = k
 all_kept book (l ∷ ls) k = all_kept (book_after book l) ls (after_kept book l k)
 
 -- ---- the total in place is the month total
+
+pub total_told_is : (book : Book) → book_refusal book ≡ 0 → book.opened ≡ true → told_of (total_in (month_rules book.days) book.board) ≡ Ok (dollars (book_total book))
+unfolding book_total total_in
+total_told_is book k o = rw (tested book k o, o)
 
 pub total_is_lem : (book : Book) → book_refusal book ≡ 0 → book.opened ≡ true → (total_in (month_rules book.days) book.board).1 ≡ book_total book
 unfolding book_total total_in

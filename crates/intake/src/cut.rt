@@ -5,6 +5,7 @@ ghost use Rattle.intake.specs.Inner.{empty_line, pushed, kept_in};
 use crate::Line;
 
 // A line with no byte yet.
+#[tactic(auto, unfolding(crate::specs::Inner::empty_line))]
 pub(crate) fn empty() -> Line
     ensures { result ≡ empty_line }
 {
@@ -19,10 +20,8 @@ pub(crate) fn keep(line: Line, more: &[u8]) -> Line
     ensures { result ≡ kept_in line more.now }
 {
     let mut kept = line;
-    let mut i = 0;
-    while i < more.len() {
-        kept = push(kept, more[i]);
-        i += 1;
+    for b in more {
+        kept = push(kept, *b);
     }
     kept
 }
@@ -31,10 +30,11 @@ pub(crate) fn keep(line: Line, more: &[u8]) -> Line
 pub(crate) fn held(len: usize) -> usize
     ensures { result ≡ min len 25 }
 {
-    if len < 25 { len } else { 25 }
+    len.min(25)
 }
 
 // The line with one byte more, or as it is where it has 25.
+#[tactic(auto, unfolding(crate::specs::Inner::pushed))]
 fn push(line: Line, b: u8) -> Line
     ensures { result ≡ pushed line b }
 {

@@ -4,6 +4,7 @@
 #![tactic(auto)]
 
 ghost use Rattle.std.specs.Prelude.{◌+◌, ◌*◌, ◌≤◌, ◌≡◌, length};
+ghost use Rattle.units.specs.Refusals.{told_number};
 ghost use Rattle.units.specs.Units.{dollars};
 ghost use Rattle.text.specs.Text.{put};
 ghost use Rattle.frame.specs.Frame.{reading_of};
@@ -13,7 +14,8 @@ ghost use Rattle.intake.specs.Answers.{answer_to, book_after, book_total};
 ghost use Rattle.intake.specs.Inner.{held_in, kept_in, first_progress, book_refusal, feed_refusal, chunk_text, chunk_book, chunk_state, fed_of, fed_marks, fed_amounts, fed_out, last_book, last_answer, last_text, end_refusal, finished_of, end_marks, end_amounts, end_out};
 
 use book::{Cover, Taken};
-use units::{Dollars, limits, refusals};
+use head::Head;
+use units::{Dollars, Refusal, limits, refusals};
 
 mod cut;
 mod print;
@@ -49,7 +51,7 @@ pub struct Finished {
     pub written: usize,
 }
 
-// The cover after a line, and the place after its answer.
+// The cover after a line, and the place after its answer. No pair: the contracts name its two parts.
 #[derive(Drop)]
 struct Work {
     cover: Cover,
@@ -57,22 +59,27 @@ struct Work {
 }
 
 // The first state.
+#[tactic(auto, unfolding(crate::specs::Inner::first_progress))]
 pub fn start() -> Progress
     ensures { result ≡ first_progress }
 {
-    let none = head::open(0);
-    let head = none.head;
     Progress {
         cover: Cover {
             count: 0,
             opened: false,
-            head: head,
+            head: Head {
+                days: 0,
+                closed: false,
+                basic: Dollars(0),
+                excess: Dollars(0),
+            },
         },
         line: cut::empty(),
     }
 }
 
 // Answers the lines that end in a chunk into out; or answers 1 or 22 and changes nothing.
+#[tactic(auto, unfolding(crate::specs::Inner::fed_of, crate::specs::Inner::fed_marks, crate::specs::Inner::fed_amounts, crate::specs::Inner::fed_out))]
 pub fn feed(
     state: Progress,
     chunk: &[u8],
@@ -86,11 +93,10 @@ pub fn feed(
     ensures text { out.new ≡ fed_out state chunk.now marks.old amounts.old out.old }
     ensures room { result.written ≤ length out.old }
 {
-    let cover = state.cover;
-    let k = feed_refusal(cover, chunk.len(), marks, amounts, out.len());
-    if k != 0 {
+    let refusal = feed_refusal(state.cover, chunk.len(), marks, amounts, out.len());
+    if refusal != 0 {
         return Fed {
-            refusal: k,
+            refusal,
             state,
             written: 0,
         };
@@ -99,6 +105,7 @@ pub fn feed(
 }
 
 // Answers a last line without its end, and writes the total, into out; or answers 1 or 22 and changes nothing.
+#[tactic(auto, unfolding(crate::specs::Inner::finished_of, crate::specs::Inner::end_marks, crate::specs::Inner::end_amounts, crate::specs::Inner::end_out))]
 pub fn finish(state: Progress, marks: &mut [bool], amounts: &mut [i64], out: &mut [u8]) -> Finished
     ensures answers { result ≡ finished_of state marks.old amounts.old out.old }
     ensures marks { marks.new ≡ end_marks state marks.old amounts.old out.old }
@@ -106,11 +113,10 @@ pub fn finish(state: Progress, marks: &mut [bool], amounts: &mut [i64], out: &mu
     ensures text { out.new ≡ end_out state marks.old amounts.old out.old }
     ensures room { result.written ≤ length out.old }
 {
-    let cover = state.cover;
-    let k = end_refusal(cover, marks, amounts, out.len());
-    if k != 0 {
+    let refusal = end_refusal(state.cover, marks, amounts, out.len());
+    if refusal != 0 {
         return Finished {
-            refusal: k,
+            refusal,
             written: 0,
         };
     }
@@ -118,6 +124,7 @@ pub fn finish(state: Progress, marks: &mut [bool], amounts: &mut [i64], out: &mu
 }
 
 // Room for twelve bytes of answer for each byte, then the state.
+#[tactic(auto, unfolding(crate::specs::Inner::feed_refusal))]
 fn feed_refusal<'a>(
     cover: Cover,
     chunk: usize,
@@ -132,15 +139,24 @@ fn feed_refusal<'a>(
 }
 
 // 1 for a run that is not the ledger's, 22 for an opened ledger that no run of calls hands back.
+#[tactic(auto, using(board::proofs::Core::ledger_number))]
 fn book_refusal<'a>(cover: Cover, marks: &'a [bool], amounts: &'a [i64]) -> u8
     ensures { result ≡ book_refusal (book_of cover marks.now amounts.now) }
 {
     if cover.opened {
-        let head = cover.head;
-        return board::check_in(head, marks, amounts);
+        return told_number(board::check_in(cover.head, marks, amounts));
     }
     let runs = (marks.len() == limits::PLACES) & (amounts.len() == limits::PLACES);
     whole::unless(runs, refusals::WRONG_LENGTH, 0)
+}
+
+fn told_number(answer: Result<(), Refusal>) -> u8
+    ensures { result ≡ told_number answer }
+{
+    match answer {
+        Ok(()) => 0,
+        Err(refusal) => refusal.number(),
+    }
 }
 
 // Answers the lines that end in a chunk.
@@ -163,6 +179,7 @@ fn answer_all(
     let mut from = 0;
     let mut at = 0;
     let mut end = lines::line_end(chunk, 0);
+    // `end` is looked for, and not counted
     while end < chunk.len() {
         let work = answer(cover, line, &chunk[from..end], marks, amounts, out, at);
         cover = work.cover;
@@ -201,13 +218,10 @@ fn answer(
     }
     let taken = end_line(cover, line, rest, marks, amounts);
     let to = print::put_answer(out, at, count + 1, taken.refusal);
-    let next = taken.cover;
-    let head = next.head;
     Work {
         cover: Cover {
             count: count + 1,
-            opened: next.opened,
-            head: head,
+            ..taken.cover
         },
         at: to,
     }
@@ -222,11 +236,11 @@ fn end_line(cover: Cover, line: Line, rest: &[u8], marks: &mut [bool], amounts: 
         return book::take(cover, rest, marks, amounts);
     }
     let full = cut::keep(line, rest);
-    let bytes = full.bytes;
-    book::take(cover, &bytes[..cut::held(full.len)], marks, amounts)
+    book::take(cover, &full.bytes[..cut::held(full.len)], marks, amounts)
 }
 
 // Room for an answer and the total, then the state.
+#[tactic(auto, unfolding(crate::specs::Inner::end_refusal))]
 fn end_refusal<'a>(cover: Cover, marks: &'a [bool], amounts: &'a [i64], out: usize) -> u8
     ensures { result ≡ end_refusal (book_of cover marks.now amounts.now) out }
 {
@@ -245,12 +259,10 @@ fn finish_all(state: Progress, marks: &mut [bool], amounts: &mut [i64], out: &mu
     ensures room { result.written ≤ length out.old }
 {
     let work = last_line(state, marks, amounts, out);
-    let cover = work.cover;
-    let sum = total(cover, marks, amounts);
-    let to = print::put_total(out, work.at, sum.0);
+    let sum = total(work.cover, marks, amounts);
     Finished {
         refusal: 0,
-        written: to,
+        written: print::put_total(out, work.at, sum.0),
     }
 }
 
@@ -264,12 +276,10 @@ fn last_line(state: Progress, marks: &mut [bool], amounts: &mut [i64], out: &mut
     ensures room { result.at ≤ 12 }
 {
     let cover = state.cover;
-    let line = state.line;
-    let len = line.len;
-    if len == 0 {
+    if state.line.len == 0 {
         return Work { cover, at: 0 };
     }
-    answer(cover, line, b"", marks, amounts, out, 0)
+    answer(cover, state.line, b"", marks, amounts, out, 0)
 }
 
 // The month total of a ledger in form, 0 where no month is open.
@@ -278,9 +288,7 @@ fn total<'a>(cover: Cover, marks: &'a [bool], amounts: &'a [i64]) -> Dollars
     ensures { result ≡ dollars (book_total (book_of cover marks.now amounts.now)) }
 {
     if cover.opened {
-        let head = cover.head;
-        let told = board::total_in(head, marks, amounts);
-        return told.amount;
+        return board::total_in(cover.head, marks, amounts).unwrap_or(Dollars(0));
     }
     Dollars(0)
 }

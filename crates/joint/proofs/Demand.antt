@@ -12,19 +12,22 @@ use borrow.Fn.Kinds.{Dens, ended_of}
 use borrow.Author.Tests.{eqb-true, eqb-false}
 use denote.Triple.Clauses.{AtExit}
 use denote.Ref.{Bor}
-use Rattle.whole.specs.Choice.{pick}
 use Rattle.whole.proofs.Choice.{by_test, passed, both_passed}
 use Rattle.units.specs.Limits.{is_amount}
 use Rattle.units.specs.declared.Millihertz.{Millihertz}
+use Rattle.std.specs.Prelude.{Result, Ok, Err}
+use Rattle.units.specs.Refusals.{paper_number, refusal_numbered, told_number}
+use Rattle.units.specs.declared.refusal.Refusal.{Refusal}
+use Rattle.head.specs.Inner.{standing_after}
+use Rattle.units.proofs.Numbered.{numbered_number}
+use native.Mathlib.Omega.{arith}
 use Rattle.history.specs.Rules.{Call}
 use Rattle.history.specs.Demand.{Run, opened, called, Demand3}
 use Rattle.history.proofs.Orders.{own_last}
 use Rattle.head.specs.Rules.{amount_item}
 use Rattle.month.specs.Month.{month_answer}
 use Rattle.month.specs.declared.Month.{Month}
-use Rattle.month.specs.declared.Booked.{Booked}
-use Rattle.month.proofs.Core.{refused_same}
-use Rattle.demand.specs.Ledger.{booked, month_ledger}
+use Rattle.demand.specs.Ledger.{month_ledger}
 use Rattle.demand.proofs.Demand.{demand3}
 use Rattle.hour.specs.Hour.{edreg_hour, refused_hour}
 use Rattle.joint.specs.Joint.{joined, joint_refusal, posted_of, worked_by, joint_of}
@@ -40,28 +43,29 @@ use Rattle.joint.proofs.joint.Kinds as joint_kinds
 
 -- ---- one joint call
 
--- the answer and the ledger of a joint call, as a post by hand answers them
-abbrev booking : Joined → Booked
-booking j = booked j.hour.refusal j.month
+-- a refusal of the papers has a number
+some_number : (r : Refusal) → paper_number r ≡ 0 → ⊥
+some_number r z = let n : ◌≡◌ {A = ℕ} 22 0 = ap paper_number (ap refusal_numbered (sym z) ∙ numbered_number r) ∙ z in absurd (omega arith)
 
 -- the amount of an hour that nothing keeps from the ledger, posted, is answered as by hand
-pub posted_is : (worked : Settlement) (m : Month) (d x : ℕ) → kept_from worked ≡ 0
-    → booking (posted_of worked m d x) ≡ month_answer m (Call.post d x (amount_item worked.amount.0))
+pub posted_is : (worked : Settlement) (m : Month) (d x : ℕ) → kept_from worked ≡ 0 →
+    let answer = month_answer m (Call.post d x (amount_item worked.amount.0)) in
+    let j = posted_of worked m d x in
+    (j.hour.refusal ≡ told_number answer) × (j.month ≡ standing_after m answer)
 unfolding posted_of joined refused_hour
 posted_is worked m d x fine =
-    let number : joint_refusal worked answer.refusal ≡ answer.refusal = rw (accepted, (passed (is_amount worked.amount.0) _ 0 (both_passed worked.refusal _ fine).1).0) (own_last answer.refusal) in
-    ap (λ (k : ℕ). booking (joined k worked answer.month m)) number ∙ go (eqb answer.refusal 0) refl
+    let number : joint_refusal worked (told_number answer) ≡ told_number answer = rw (accepted, (passed (is_amount worked.amount.0) _ 0 (both_passed worked.refusal _ fine).1).0) (own_last (told_number answer)) in
+    subst (λ (k : ℕ). let j = joined k worked (standing_after m answer) m in (j.hour.refusal ≡ told_number answer) × (j.month ≡ standing_after m answer)) (sym number) (go answer)
   where
     accepted : worked.refusal ≡ 0
     accepted = (both_passed worked.refusal _ fine).0
 
-    answer : Booked
+    answer : Result Month Refusal
     answer = month_answer m (Call.post d x (amount_item worked.amount.0))
 
-    go : (t : Bool) → eqb answer.refusal 0 ≡ t
-        → booking (pick t (record { hour = worked; month = answer.month }) (record { hour = refused_hour answer.refusal; month = m })) ≡ answer
-    go true e = ap (λ (k : ℕ). booked k answer.month) (accepted ∙ sym (eqb-true answer.refusal 0 e))
-    go false e = ap (booked answer.refusal) (sym (refused_same m (Call.post d x (amount_item worked.amount.0)) (eqb-false answer.refusal 0 e)))
+    go : (y : Result Month Refusal) → ((joined (told_number y) worked (standing_after m y) m).hour.refusal ≡ told_number y) × ((joined (told_number y) worked (standing_after m y) m).month ≡ standing_after m y)
+    go (Ok n) = (accepted, refl)
+    go (Err r) = by_test (eqb (paper_number r) 0) (λ (t : eqb (paper_number r) 0 ≡ true). absurd (some_number r (eqb-true (paper_number r) 0 t))) (λ (t : eqb (paper_number r) 0 ≡ false). rw t (refl, refl))
 
 -- ---- runs with joint calls
 
@@ -86,7 +90,13 @@ pub by_posts : (days : ℕ) (es : List Event) (m : Month) → JointRun month_led
 by_posts days _ m (opens _ o) = opened m o
 by_posts days _ n (by_hand es m c k _ run a) = called (calls_of es) m c k n (by_posts days es m run) a
 by_posts days _ _ (by_joint es worked m d x j run c z) =
-    called (calls_of es) m (post_of worked d x) j.hour.refusal j.month (by_posts days es m run) (ap booking c ∙ posted_is worked m d x z)
+    called (calls_of es) m (post_of worked d x) j.hour.refusal j.month (by_posts days es m run)
+    (record {
+      answer = month_answer m (post_of worked d x);
+      post = refl;
+      number = ap (λ (y : Joined). y.hour.refusal) c ∙ (posted_is worked m d x z).0;
+      left = ap (λ (y : Joined). y.month) c ∙ (posted_is worked m d x z).1;
+    })
 by_posts days _ _ (by_refused es worked m d x j run c f) =
     subst (Run month_ledger days (calls_of es)) (sym (ap (λ (y : Joined). y.month) (c ∙ kept_is worked m d x f))) (by_posts days es m run)
 

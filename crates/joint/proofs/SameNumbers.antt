@@ -11,6 +11,7 @@ use borrow.Fn.Kinds.{Dens, GoodsP, ended_of}
 use borrow.Author.Tests.{eq-eqb, ne_eqb, eqb-true}
 use Rattle.whole.proofs.Choice.{by_test, both_passed}
 use Rattle.units.specs.Limits.{is_amount, seconds_of_hour}
+use Rattle.units.specs.Refusals.{told_number}
 use Rattle.history.specs.Rules.{Call}
 use Rattle.head.specs.Rules.{amount_item}
 use Rattle.month.specs.Month.{month_answer}
@@ -34,7 +35,7 @@ use Rattle.hour.proofs.Accepted.{settled_accepted, five_targets}
 
 module _ (worked : Settlement) (m : Month) (d x : ℕ) where
   abbrev number : ℕ
-  number = joint_refusal worked (month_answer m (Call.post d x (amount_item worked.amount.0))).refusal
+  number = joint_refusal worked (told_number (month_answer m (Call.post d x (amount_item worked.amount.0))))
 
   number_zero : (posted_of worked m d x).hour.refusal ≡ 0 → number ≡ 0
   unfolding posted_of joined refused_hour

@@ -1,10 +1,11 @@
 -- The joint call (document 01, "The ledger": "one joint call that works an hour out and posts it"): the hour's refusal, 16, the ledger's.
 use Rattle.std.specs.Prelude.{ℕ, ◌≡◌, Bool, List, [], ◌∷◌, ◌++◌, length}
 use Rattle.whole.specs.Choice.{in_order, kept}
-use Rattle.units.specs.Refusals.{bad_amount}
+use Rattle.units.specs.Refusals.{bad_amount, told_number}
 use Rattle.units.specs.Limits.{is_amount, seconds_of_hour}
 use Rattle.history.specs.Rules.{Call, own}
 use Rattle.head.specs.Rules.{amount_item}
+use Rattle.head.specs.Inner.{standing_after}
 use Rattle.month.specs.Month.{month_answer}
 use Rattle.month.specs.declared.Month.{Month}
 use Rattle.hour.specs.Hour.{WholeHour, hour_answer, refused_hour}
@@ -35,8 +36,8 @@ joint_refusal worked ledger = in_order (post_tests worked ++ own ledger ∷ [])
 unfoldable pub posted_of : Settlement → Month → ℕ → ℕ → Joined
 posted_of worked month day hour =
     let booked = month_answer month (Call.post day hour (amount_item worked.amount.0)) in
-    joined (joint_refusal worked booked.refusal)
-    worked booked.month month
+    joined (joint_refusal worked (told_number booked))
+    worked (standing_after month booked) month
 
 -- "the joint call gives the same numbers and takes no such run"
 abbrev pub worked_by : WholeHour → Settlement

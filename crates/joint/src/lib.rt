@@ -3,6 +3,8 @@
 #![tactic(auto)]
 
 ghost use Rattle.std.specs.Prelude.{◌≡◌};
+ghost use Rattle.units.specs.Refusals.{told_number};
+ghost use Rattle.head.specs.Inner.{standing_after};
 ghost use Rattle.hour.specs.Hour.{edreg_hour};
 ghost use Rattle.sreg_hour.specs.Hour.{sreg_hour};
 ghost use Rattle.joint.specs.Joint.{joined, posted_of, joint_of, beside_state, sreg_joint_of};
@@ -10,7 +12,7 @@ ghost use Rattle.joint.specs.Joint.{joined, posted_of, joint_of, beside_state, s
 use hour::{Settlement, Shift, Terms};
 use month::Month;
 use sreg::EventState;
-use units::{Millihertz, limits, refusals};
+use units::{Millihertz, Refusal, limits, refusals};
 
 // The least amount that the ledger takes.
 const LEAST: i64 = -limits::AMOUNT;
@@ -93,48 +95,58 @@ pub fn sreg_joint(
 }
 
 // The state beside an hour that is posted, and `Outside` beside a refusal.
+#[tactic(auto, unfolding(crate::specs::Joint::beside_state))]
 fn beside(joined: Joined, after: EventState) -> StateJoined
     ensures { result ≡ beside_state joined after }
 {
     let posted = joined.hour;
     if posted.refusal == 0 {
         return StateJoined {
-            joined: joined,
+            joined,
             state: after,
         };
     }
     StateJoined {
-        joined: joined,
+        joined,
         state: EventState::Outside,
     }
 }
 
 // The hour's refusal, 16, the ledger's.
+#[tactic(auto, using(history::proofs::Orders::own_last), unfolding(crate::specs::Joint::posted_of))]
 fn posted(worked: Settlement, month: Month, day: u8, hour: u8) -> Joined
     ensures { result ≡ posted_of worked month day hour }
 {
     let amount = worked.amount;
     let booked = month.post(day, hour, amount);
+    let (number, next) = told(booked, month);
     let size = amount.0;
     let range = whole::within(size, LEAST, limits::AMOUNT);
-    let ledger = whole::unless(range, refusals::BAD_AMOUNT, booked.refusal);
+    let ledger = whole::unless(range, refusals::BAD_AMOUNT, number);
     let k = whole::or_else(worked.refusal, ledger);
-    let next = booked.month;
     join(k, worked, next, month)
 }
 
+// The number of the ledger's answer, and the ledger that stands after it.
+fn told(booked: Result<Month, Refusal>, month: Month) -> (u8, Month)
+    ensures { result ≡ (told_number booked, standing_after month booked) }
+{
+    match booked {
+        Ok(next) => (0, next),
+        Err(refusal) => (refusal.number(), month),
+    }
+}
+
 // The hour and the next ledger; where k refuses, k alone and the ledger as it was.
+#[tactic(auto, unfolding(crate::specs::Joint::joined))]
 fn join(k: u8, hour: Settlement, next: Month, month: Month) -> Joined
     ensures { result ≡ joined k hour next month }
 {
     if k == 0 {
-        return Joined {
-            hour: hour,
-            month: next,
-        };
+        return Joined { hour, month: next };
     }
     Joined {
         hour: hour::refused_hour(k),
-        month: month,
+        month,
     }
 }

@@ -9,40 +9,11 @@ use std::io::{Read, Write};
 use std::process::ExitCode;
 use units::limits;
 
-// The state after a read, and whether there is more to read.
-#[derive(Drop)]
-struct Turn {
-    state: Progress,
-    more: bool,
-}
-
 // Twelve bytes of answers for each byte of a read.
 fn room() -> [u8; 786432]
     ensures { 786432 ≡ length result }
 {
     [0; 786432]
-}
-
-// One read, and one write of the answers to the lines that end in it. No more is read once every line is answered
-// that ever will be.
-fn read_once(
-    reader: &mut impl Read,
-    writer: &mut impl Write,
-    state: Progress,
-    input: &mut [u8],
-    marks: &mut [bool],
-    amounts: &mut [i64],
-    out: &mut [u8],
-) -> io::Result<Turn> {
-    let n = reader.read(input)?;
-    let fed = intake::feed(state, &input[..n], marks, amounts, out);
-    writer.write_all(&out[..fed.written])?;
-    let next = fed.state;
-    let cover = next.cover;
-    Ok(Turn {
-        state: next,
-        more: (0 < n) & (cover.count < intake::MOST),
-    })
 }
 
 // Writes the answer to a last line without its end, and the total.
@@ -57,7 +28,9 @@ fn close(
     writer.write_all(&out[..finished.written])
 }
 
-// Reads to the input's end.
+// Reads to the input's end, and answers the lines that end in each read. No more is read once every line is answered
+// that ever will be. (A loop is proved to end, and a reader says nothing of how often it can be read: so reads are
+// counted.)
 fn run(reader: &mut impl Read, writer: &mut impl Write) -> io::Result<()> {
     let mut marks = [false; limits::PLACES];
     let mut amounts = [0i64; limits::PLACES];
@@ -65,17 +38,11 @@ fn run(reader: &mut impl Read, writer: &mut impl Write) -> io::Result<()> {
     let mut out = room();
     let mut state = intake::start();
     for _ in 0..u64::MAX {
-        let turn = read_once(
-            reader,
-            writer,
-            state,
-            &mut input,
-            &mut marks,
-            &mut amounts,
-            &mut out,
-        )?;
-        state = turn.state;
-        if !turn.more {
+        let n = reader.read(&mut input)?;
+        let fed = intake::feed(state, &input[..n], &mut marks, &mut amounts, &mut out);
+        writer.write_all(&out[..fed.written])?;
+        state = fed.state;
+        if n == 0 || state.cover.count >= intake::MOST {
             break;
         }
     }

@@ -8,41 +8,6 @@ use std::io;
 use std::io::{Read, Write};
 use units::limits;
 
-// Where the reading stands: in a heading, or in a case.
-#[derive(Drop)]
-struct Case {
-    heading: bool,
-    state: Progress,
-}
-
-// Where it stands after a read, and whether there is more.
-#[derive(Drop)]
-struct Turn {
-    case: Case,
-    more: bool,
-}
-
-// A piece of a heading is written as it is, a piece of a case is fed.
-fn take_piece(
-    writer: &mut impl Write,
-    case: Case,
-    piece: &[u8],
-    marks: &mut [bool],
-    amounts: &mut [i64],
-    out: &mut [u8],
-) -> io::Result<Case> {
-    if case.heading {
-        writer.write_all(piece)?;
-        return Ok(case);
-    }
-    let fed = intake::feed(case.state, piece, marks, amounts, out);
-    writer.write_all(&out[..fed.written])?;
-    Ok(Case {
-        heading: false,
-        state: fed.state,
-    })
-}
-
 // The total of a case that ends.
 fn end_case(
     writer: &mut impl Write,
@@ -55,86 +20,63 @@ fn end_case(
     writer.write_all(&out[..finished.written])
 }
 
-// A byte of the input: 01 ends a heading, 00 ends a case.
-fn take_byte(
+// A byte of a case.
+fn feed(
     writer: &mut impl Write,
-    case: Case,
+    state: Progress,
     byte: u8,
     marks: &mut [bool],
     amounts: &mut [i64],
     out: &mut [u8],
-) -> io::Result<Case> {
-    if byte == 1 {
-        writer.write_all(b"\n")?;
-        return Ok(Case {
-            heading: false,
-            state: intake::start(),
-        });
-    }
-    if byte == 0 {
-        end_case(writer, case.state, marks, amounts, out)?;
-        return Ok(Case {
-            heading: true,
-            state: intake::start(),
-        });
-    }
-    take_piece(writer, case, &[byte], marks, amounts, out)
+) -> io::Result<Progress> {
+    let fed = intake::feed(state, &[byte], marks, amounts, out);
+    writer.write_all(&out[..fed.written])?;
+    Ok(fed.state)
 }
 
-fn take_all(
+// A byte of the input: 01 ends a heading, 00 ends a case; any other of a heading is written as it is, of a case it is
+// fed. A case is there where the reading stands in one, and not in a heading.
+fn take_byte(
     writer: &mut impl Write,
-    case: Case,
-    bytes: &[u8],
+    case: Option<Progress>,
+    byte: u8,
     marks: &mut [bool],
     amounts: &mut [i64],
     out: &mut [u8],
-) -> io::Result<Case> {
-    let mut now = case;
-    for byte in bytes {
-        now = take_byte(writer, now, *byte, marks, amounts, out)?;
+) -> io::Result<Option<Progress>> {
+    match (byte, case) {
+        (1, _) => {
+            writer.write_all(b"\n")?;
+            Ok(Some(intake::start()))
+        }
+        (0, _) => {
+            end_case(writer, case.unwrap_or(intake::start()), marks, amounts, out)?;
+            Ok(None)
+        }
+        (_, Some(state)) => Ok(Some(feed(writer, state, byte, marks, amounts, out)?)),
+        (_, None) => {
+            writer.write_all(&[byte])?;
+            Ok(None)
+        }
     }
-    Ok(now)
 }
 
-fn read_once(
-    reader: &mut impl Read,
-    writer: &mut impl Write,
-    case: Case,
-    input: &mut [u8],
-    marks: &mut [bool],
-    amounts: &mut [i64],
-    out: &mut [u8],
-) -> io::Result<Turn> {
-    let n = reader.read(input)?;
-    let next = take_all(writer, case, &input[..n], marks, amounts, out)?;
-    Ok(Turn {
-        case: next,
-        more: 0 < n,
-    })
-}
-
+// (A program lends another no module, so import_cases has this loop too. A reader says nothing of how often it can be
+// read: so reads are counted.)
 fn main(rt: HostRuntime) -> io::Result<()> {
     let mut marks = [false; limits::PLACES];
     let mut amounts = [0i64; limits::PLACES];
     let mut input = [0u8; 4096];
     let mut out = [0u8; 64];
-    let mut case = Case {
-        heading: true,
-        state: intake::start(),
-    };
+    let mut writer = rt.stdout();
+    let mut case = None;
     for _ in 0..1_000_000 {
-        let turn = read_once(
-            &mut rt.stdin(),
-            &mut rt.stdout(),
-            case,
-            &mut input,
-            &mut marks,
-            &mut amounts,
-            &mut out,
-        )?;
-        case = turn.case;
-        if !turn.more {
+        let n = rt.stdin().read(&mut input)?;
+        if n == 0 {
             break;
+        }
+        for byte in &input[..n] {
+            case = take_byte(&mut writer, case, *byte, &mut marks, &mut amounts, &mut out)?;
         }
     }
     Ok(())

@@ -5,10 +5,13 @@ use native.Mathlib.Omega.{arith}
 use mathlib.Core.Path.{◌≡◌, refl, sym, ap, ◌∙◌}
 use mathlib.Core.Bool.{Bool, true, false, not, ◌&&◌, and-true, and_assoc}
 use mathlib.Core.List.{List, [], ◌∷◌, ◌++◌, append_assoc, append-nil}
-use lib.Dec.{eqb}
+use lib.Dec.{eqb, ltb}
 use lib.ListN.{length, get_or, take, drop, length-append, length-drop, take-append-drop}
-use lib.Seq.{drop-drop, length-take-le}
-use borrow.Author.Tests.{eq-eqb, ne_eqb}
+use lib.Seq.{drop-drop, length-take-le, take-length}
+use borrow.Author.Tests.{ne_eqb, ltb-false}
+use Rattle.std.specs.List.{position, position_or_len}
+use Rattle.std.specs.Option.{unwrap_or}
+use Rattle.std.proofs.lemmas.List.Recursion.{is_position_or_len}
 use Rattle.whole.specs.Choice.{pick}
 use Rattle.whole.proofs.Choice.{by_test, clash}
 use Rattle.whole.proofs.Runs.{rest, no_rest}
@@ -17,18 +20,34 @@ use Rattle.lines.specs.Inner.{ends_of, is_begun, no_end}
 
 -- ---- where a line ends
 
-module _ (chunk : List ℕ) (i : ℕ) where
-  pub before_next : i < length chunk → (get_or chunk i 0 ≡ line_end → ⊥) → i + length (before_end (drop i chunk)) ≡ i + 1 + length (before_end (drop (i + 1) chunk))
-  before_next h e = rw (rest chunk i 0 h, ne_eqb (get_or chunk i 0) line_end e) (omega arith)
+-- the place that `position` finds, or the length where it finds none
+pub first_place : (xs : List ℕ) → length (before_end xs) ≡ position_or_len (λ b. eqb b line_end) xs
+first_place = is_position_or_len (λ xs. length (before_end xs)) (λ b. eqb b line_end) refl (λ x xs. by_test (eqb x line_end) (λ (t : eqb x line_end ≡ true). rw t) (λ (t : eqb x line_end ≡ false). rw t (omega arith)))
 
-  pub before_ends : i < length chunk → get_or chunk i 0 ≡ line_end → i ≡ i + length (before_end (drop i chunk))
-  before_ends h e = rw (rest chunk i 0 h, eq-eqb (get_or chunk i 0) line_end e) (omega arith)
+pub before_le : (xs : List ℕ) → length (before_end xs) ≤ length xs
+before_le [] = omega arith
+before_le (x ∷ xs) =
+    by_test (eqb x line_end)
+    (λ (t : eqb x line_end ≡ true). rw t (omega arith))
+    (λ (t : eqb x line_end ≡ false). rw t (omega (arith, before_le xs)))
 
-  pub before_done : length chunk ≤ i → i ≡ i + length (before_end (drop i chunk))
-  before_done h = rw (no_rest chunk i h) (omega arith)
+-- what `first_end` goes by: where no byte passes, the line goes to the end
+pub first_or_all : (xs : List ℕ) → unwrap_or (position (λ b. eqb b line_end) xs) (length xs) ≡ length (before_end xs)
+first_or_all xs =
+    let n = position_or_len (λ b. eqb b line_end) xs in
+    by_test (ltb n (length xs))
+    (λ (t : ltb n (length xs) ≡ true). rw t (sym (first_place xs)))
+    (λ (t : ltb n (length xs) ≡ false). rw t (omega (arith, ltb-false n (length xs) t, first_place xs, before_le xs)))
 
--- what `first_end` goes by: a byte that ends the line, one that does not, and the end of the bytes
-pub ruleset ending = (before_next, before_ends, before_done)
+-- past the bytes no line begins
+pub none_left : (bytes : List ℕ) (from : ℕ) → length bytes < from → length (before_end (drop from bytes)) ≡ 0
+none_left bytes from h = rw (no_rest bytes from (omega arith))
+
+-- and `line_end`, with what stands from a place to the end
+pub to_the_end : (bytes : List ℕ) (from : ℕ) → take (length bytes - from) (drop from bytes) ≡ drop from bytes
+to_the_end bytes from = ap (λ (k : ℕ). take k (drop from bytes)) (sym (length-drop from bytes)) ∙ take-length (drop from bytes)
+
+pub ruleset past = (none_left, before_le, to_the_end)
 
 pub before_take : (xs : List ℕ) → take (length (before_end xs)) xs ≡ before_end xs
 before_take [] = refl
@@ -46,6 +65,9 @@ module _ (bytes : List ℕ) (i : ℕ) (none : Bool) (e : no_end bytes ≡ none &
   pub no_end_done : length bytes ≤ i → none ≡ no_end bytes
   no_end_done h = sym (e ∙ ap (λ (r : List ℕ). none && no_end r) (no_rest bytes i h) ∙ and-true none)
 
+-- what `no_end` goes by
+pub ruleset testing = (no_end_next, no_end_done)
+
 -- such bytes stand before the first line end with what follows
 before_append : (xs ys : List ℕ) → no_end xs ≡ true → length (before_end (xs ++ ys)) ≡ length xs + length (before_end ys)
 before_append [] ys e = omega arith
@@ -54,13 +76,12 @@ before_append (x ∷ xs) ys e =
     (λ (t : eqb x line_end ≡ true). let z : ◌≡◌ {A = Bool} false true = rw t at e in clash z)
     (λ (t : eqb x line_end ≡ false). let z : no_end xs ≡ true = rw t at e in rw t (omega (arith, before_append xs ys z)))
 
-pub before_past : (bytes : List ℕ) (i n : ℕ) → i + n ≤ length bytes → no_end (take n (drop i bytes)) ≡ true
-    → i + length (before_end (drop i bytes)) ≡ i + n + length (before_end (drop (i + n) bytes))
-before_past bytes i n h e =
-    let long = ap (λ (l : List ℕ). length (before_end l)) (sym (take-append-drop n (drop i bytes))) ∙ before_append (take n (drop i bytes)) (drop n (drop i bytes)) e in
-    let left = ap (λ (l : List ℕ). length (before_end l)) (drop-drop n i bytes) in
-    let block = length-take-le n (drop i bytes) (omega (arith, length-drop i bytes)) in
-    omega (arith, long, left, block)
+pub before_past : (n : ℕ) (bytes : List ℕ) → n ≤ length bytes → no_end (take n bytes) ≡ true
+    → length (before_end bytes) ≡ n + length (before_end (drop n bytes))
+before_past n bytes h e =
+    let long = ap (λ (l : List ℕ). length (before_end l)) (sym (take-append-drop n bytes)) ∙ before_append (take n bytes) (drop n bytes) e in
+    let block = length-take-le n bytes h in
+    omega (arith, long, block)
 
 -- ---- the first line, and the others
 
@@ -77,15 +98,6 @@ pub lines_first : (xs : List ℕ) → 0 < length xs → lines_of xs ≡ before_e
 lines_first xs h = lines_next [] xs (omega arith)
 
 -- ---- how many there are
-
--- one more, by the test
-pub one_more_lem : (t : Bool) (n : ℕ) → pick t (n + 1) n ≡ n + pick t 1 0
-one_more_lem true n = refl
-one_more_lem false n = omega arith
-
-pub at_most : (t : Bool) → pick t 1 0 ≤ 1
-at_most true = omega arith
-at_most false = omega arith
 
 -- the lines that end in bytes, and one more where a line is begun at their end
 abbrev pub ends_in : Bool → List ℕ → ℕ
@@ -139,7 +151,7 @@ ends_most (x ∷ xs) =
     (λ (t : eqb x line_end ≡ true). rw t (omega (arith, ends_most xs)))
     (λ (t : eqb x line_end ≡ false). rw t (omega (arith, ends_most xs)))
 
-ends_append : (xs ys : List ℕ) → ends_of (xs ++ ys) ≡ ends_of xs + ends_of ys
+pub ends_append : (xs ys : List ℕ) → ends_of (xs ++ ys) ≡ ends_of xs + ends_of ys
 ends_append [] ys = omega arith
 ends_append (x ∷ xs) ys = omega (arith, ends_append xs ys)
 
@@ -150,20 +162,13 @@ module _ (bytes : List ℕ) (i : ℕ) where
   pub ends_done : length bytes ≤ i → ends_of (drop i bytes) ≡ 0
   ends_done h = ap ends_of (no_rest bytes i h)
 
-  pub ends_past : (n : ℕ) → ends_of (drop i bytes) ≡ ends_of (take n (drop i bytes)) + ends_of (drop (i + n) bytes)
-  ends_past n =
-      ap ends_of (sym (take-append-drop n (drop i bytes)))
-      ∙ ends_append (take n (drop i bytes)) (drop n (drop i bytes))
-      ∙ ap (λ (l : List ℕ). ends_of (take n (drop i bytes)) + ends_of l) (drop-drop n i bytes)
+-- what `ends_in` goes by
+pub ruleset counting = (ends_next, ends_done)
+
+-- and `count`, a run after the other
+pub ruleset by_runs = (ends_append, ends_most, ends_all)
 
 -- ---- line by line: the lines from the i-th on are those of the bytes from a place on
-
-before_le : (xs : List ℕ) → length (before_end xs) ≤ length xs
-before_le [] = omega arith
-before_le (x ∷ xs) =
-    by_test (eqb x line_end)
-    (λ (t : eqb x line_end ≡ true). rw t (omega arith))
-    (λ (t : eqb x line_end ≡ false). rw t (omega (arith, before_le xs)))
 
 some_bytes : (xs : List ℕ) → 0 < length (lines_of xs) → 0 < length xs
 some_bytes [] h = absurd (omega arith)

@@ -1,21 +1,22 @@
 -- The loss fee: how large each part is, that a granted answer is the paper's formula, and that the ledger takes each part. By the
 -- ranges that a granted call has tested. Assumes nothing.
 use Prim.Native.Nat.{ℕ, ◌+◌, ◌*◌, ◌/◌, ◌≤◌}
-use mathlib.Core.Path.{◌≡◌, refl}
+use mathlib.Core.Path.{◌≡◌, refl, sym, ap, ◌∙◌}
 use mathlib.Core.Bool.{Bool, true, false, ◌&&◌}
 use mathlib.Core.List.{[], ◌∷◌}
 use native.Mathlib.Omega.{arith}
-use lib.Dec.{eqb}
 use lib.IntN.{ℤ, pos, ◌-ℤ◌, ◌*ℤ◌}
 use lib.Signed.{lt_z}
-use borrow.Author.Tests.{eqb-true}
 use Rattle.whole.specs.Choice.{pick}
 use Rattle.whole.specs.Whole.{up, down, Between}
-use Rattle.whole.proofs.Choice.{and_both, all_passed, kept_new}
+use Rattle.whole.proofs.Choice.{and_both, all_passed}
+use Rattle.units.proofs.Numbered.{let_through, answer_is, answered_ok}
 use Rattle.whole.proofs.Signed.{inside, difference, times, lt_z_false}
 use Rattle.units.specs.Refusals.{bad_money, bad_energy}
 use Rattle.units.specs.Limits.{is_energy, is_voltage, is_cost, is_loss_fee, most_energy, most_cost, most_loss_fee}
 use Rattle.loss.specs.Loss.{at_least_zero, net, above, percent, basic_fee, excess_fee, loss_refusal, added, loss_answer}
+use Rattle.std.specs.Prelude.{Ok}
+use Rattle.loss.specs.declared.LossFee.{LossFee}
 use Rattle.loss.specs.Accepted.{LossFits}
 use Rattle.whole.proofs.Bounds.{in_range_lem, product_between, nearest_between}
 
@@ -100,24 +101,20 @@ module _ {charged discharged voltage cost : ℤ} (f : LossFits charged discharge
   unfolding excess_fee
   excess_between = nearest_between _ (5 * 100 * 10000) most_excess (omega arith) excess_product
 
-  pub loss_granted : loss_answer charged discharged voltage cost ≡ added 0 (basic_fee charged discharged voltage cost) (excess_fee charged discharged voltage cost)
+  pub loss_granted : loss_answer charged discharged voltage cost ≡ Ok (added (basic_fee charged discharged voltage cost) (excess_fee charged discharged voltage cost))
   unfolding loss_answer
-  loss_granted = kept_new (added 0 (basic_fee charged discharged voltage cost) (excess_fee charged discharged voltage cost)) (added (loss_refusal charged discharged voltage cost) (pos 0) (pos 0)) (loss_passes f)
+  loss_granted = answered_ok _ (loss_passes f)
 
--- the ledger's range of a loss fee holds each part, whatever was handed in (document 02, #101)
-pub loss_posts : (charged discharged voltage cost : ℤ) →
-    let a = loss_answer charged discharged voltage cost in
-    (is_loss_fee a.basic.0 ≡ true) × (is_loss_fee a.excess.0 ≡ true)
+-- the ledger's range of a loss fee holds each part of every answer (document 02, #101)
+pub loss_posts : (charged discharged voltage cost : ℤ) (l : LossFee) → loss_answer charged discharged voltage cost ≡ Ok l →
+    (is_loss_fee l.basic.0 ≡ true) × (is_loss_fee l.excess.0 ≡ true)
 unfolding loss_answer added
-loss_posts charged discharged voltage cost = by (eqb (loss_refusal charged discharged voltage cost) 0) (eqb-true _ 0)
+loss_posts charged discharged voltage cost l e =
+    let f = loss_fits charged discharged voltage cost (let_through _ _ e) in
+    let a = answer_is (loss_refusal charged discharged voltage cost) _ e in (
+      ap (λ (l : LossFee). is_loss_fee l.basic.0) (sym a) ∙ posts most_basic (basic_fee charged discharged voltage cost) (omega arith) (basic_between f),
+      ap (λ (l : LossFee). is_loss_fee l.excess.0) (sym a) ∙ posts most_excess (excess_fee charged discharged voltage cost) (omega arith) (excess_between f),
+    )
   where
     posts : (k : ℕ) (z : ℤ) → k ≤ most_loss_fee → Between (pos 0) (pos k) z → is_loss_fee z ≡ true
     posts k z l b = in_range_lem (record { least = b.least; most = omega (arith, b.most) })
-
-    by : (t : Bool) → (t ≡ true → loss_refusal charged discharged voltage cost ≡ 0) →
-        let a = pick t (added 0 (basic_fee charged discharged voltage cost) (excess_fee charged discharged voltage cost)) (added (loss_refusal charged discharged voltage cost) (pos 0) (pos 0)) in
-        (is_loss_fee a.basic.0 ≡ true) × (is_loss_fee a.excess.0 ≡ true)
-    by true e =
-        let f = loss_fits charged discharged voltage cost (e refl) in
-        (posts most_basic (basic_fee charged discharged voltage cost) (omega arith) (basic_between f), posts most_excess (excess_fee charged discharged voltage cost) (omega arith) (excess_between f))
-    by false e = (posts 0 (pos 0) (omega arith) (omega arith), posts 0 (pos 0) (omega arith) (omega arith))

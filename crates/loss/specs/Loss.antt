@@ -1,9 +1,10 @@
 -- Document 01, "Loss fee": energy is kWh, voltage volts, and the average cost ten-thousandths of a dollar.
-use Rattle.std.specs.Prelude.{ℕ, ◌*◌, ◌&&◌, [], ◌∷◌, ℤ, pos, ◌+ℤ◌, ◌-ℤ◌, ◌*ℤ◌}
+use Rattle.std.specs.Prelude.{ℕ, ◌*◌, ◌&&◌, [], ◌∷◌, Result, ℤ, pos, ◌+ℤ◌, ◌-ℤ◌, ◌*ℤ◌}
 use Rattle.std.specs.Int.Signed.{lt_z}
-use Rattle.whole.specs.Choice.{pick, in_order, kept}
+use Rattle.whole.specs.Choice.{pick, in_order}
 use Rattle.whole.specs.Whole.{nearest}
-use Rattle.units.specs.Refusals.{bad_money, bad_energy}
+use Rattle.units.specs.Refusals.{bad_money, bad_energy, result_by}
+use Rattle.units.specs.declared.refusal.Refusal.{Refusal}
 use Rattle.units.specs.Limits.{is_energy, is_voltage, is_cost}
 use Rattle.units.specs.Units.{dollars}
 use Rattle.loss.specs.declared.LossFee.{LossFee}
@@ -39,11 +40,9 @@ loss_refusal charged discharged voltage cost =
     in_order ((is_energy charged && is_energy discharged && is_voltage voltage, bad_energy) ∷ (is_cost cost, bad_money) ∷ [])
 
 -- "Each is rounded to the nearest dollar and they are added"
-unfoldable pub added : ℕ → ℤ → ℤ → LossFee
-added k basic excess =
-    record { refusal = k; basic = dollars basic; excess = dollars excess; total = dollars (basic +ℤ excess) }
+unfoldable pub added : ℤ → ℤ → LossFee
+added basic excess = record { basic = dollars basic; excess = dollars excess; total = dollars (basic +ℤ excess) }
 
-unfoldable pub loss_answer : ℤ → ℤ → ℤ → ℤ → LossFee
+unfoldable pub loss_answer : ℤ → ℤ → ℤ → ℤ → Result LossFee Refusal
 loss_answer charged discharged voltage cost =
-    let k = loss_refusal charged discharged voltage cost in
-    kept k (added 0 (basic_fee charged discharged voltage cost) (excess_fee charged discharged voltage cost)) (added k (pos 0) (pos 0))
+    result_by (loss_refusal charged discharged voltage cost) (added (basic_fee charged discharged voltage cost) (excess_fee charged discharged voltage cost))

@@ -2,57 +2,52 @@
 #![tactic(auto)]
 
 ghost use Rattle.std.specs.Prelude.{◌≡◌};
+ghost use Rattle.units.specs.Refusals.{result_by};
 ghost use Rattle.loss.specs.Loss.{at_least_zero, percent, loss_refusal, added, basic_fee, excess_fee, loss_answer};
 
-use units::{Dollars, limits, refusals};
+use units::{Dollars, Refusal, limits};
 
 // A dollar by percents and ten-thousandths, and in fifths besides.
 const PARTS: i64 = 100 * 10_000;
 
 const FIFTHS: i64 = 5 * PARTS;
 
-// The loss fee, or the number of its refusal with zeros.
+// The loss fee, and its parts.
 #[derive(Clone, Copy)]
 pub struct LossFee {
-    pub refusal: u8,
     pub basic: Dollars,
     pub excess: Dollars,
     pub total: Dollars,
 }
 
 // The loss fee by the energy charged and discharged in kWh, the voltage in V and the average cost in ten-thousandths of
-// a dollar.
-pub fn loss_fee(charged: i64, discharged: i64, voltage: i64, cost: i64) -> LossFee
+// a dollar; or 15 or 3.
+#[tactic(auto, using(units::proofs::Numbered::let_through), unfolding(crate::specs::Loss::loss_answer))]
+pub fn loss_fee(charged: i64, discharged: i64, voltage: i64, cost: i64) -> Result<LossFee, Refusal>
     ensures { result ≡ loss_answer charged discharged voltage cost }
 {
-    let k = loss_refusal(charged, discharged, voltage, cost);
-    if k == 0 {
-        return losses(charged, discharged, voltage, cost);
-    }
-    LossFee {
-        refusal: k,
-        basic: Dollars(0),
-        excess: Dollars(0),
-        total: Dollars(0),
-    }
+    loss_refusal(charged, discharged, voltage, cost)?;
+    Ok(losses(charged, discharged, voltage, cost))
 }
 
-fn loss_refusal(charged: i64, discharged: i64, voltage: i64, cost: i64) -> u8
-    ensures { result ≡ loss_refusal charged discharged voltage cost }
+#[tactic(auto, unfolding(crate::specs::Loss::loss_refusal))]
+fn loss_refusal(charged: i64, discharged: i64, voltage: i64, cost: i64) -> Result<(), Refusal>
+    ensures { result ≡ result_by (loss_refusal charged discharged voltage cost) tt }
 {
-    let money = whole::unless(whole::within(cost, 0, limits::COST), refusals::BAD_MONEY, 0);
-    whole::unless(
-        whole::within(charged, 0, limits::ENERGY)
-            & whole::within(discharged, 0, limits::ENERGY)
-            & whole::within(voltage, 1, limits::VOLTAGE),
-        refusals::BAD_ENERGY,
-        money,
-    )
+    let energies = whole::within(charged, 0, limits::ENERGY)
+        & whole::within(discharged, 0, limits::ENERGY);
+    if !(energies & whole::within(voltage, 1, limits::VOLTAGE)) {
+        return Err(Refusal::BadEnergy);
+    }
+    if !whole::within(cost, 0, limits::COST) {
+        return Err(Refusal::BadMoney);
+    }
+    Ok(())
 }
 
 fn losses(charged: i64, discharged: i64, voltage: i64, cost: i64) -> LossFee
     requires { loss_refusal charged discharged voltage cost ≡ 0 }
-    ensures { result ≡ added 0 (basic_fee charged discharged voltage cost) (excess_fee charged discharged voltage cost) }
+    ensures { result ≡ added (basic_fee charged discharged voltage cost) (excess_fee charged discharged voltage cost) }
 {
     let net = at_least_zero(charged - discharged);
     let above = at_least_zero(net * 5 - charged);
@@ -60,17 +55,17 @@ fn losses(charged: i64, discharged: i64, voltage: i64, cost: i64) -> LossFee
     let basic = whole::nearest(net * price, PARTS);
     let excess = whole::nearest(above * price * 2, FIFTHS);
     LossFee {
-        refusal: 0,
         basic: Dollars(basic),
         excess: Dollars(excess),
         total: Dollars(basic + excess),
     }
 }
 
+#[tactic(auto, unfolding(crate::specs::Loss::at_least_zero))]
 fn at_least_zero(z: i64) -> i64
     ensures { result ≡ at_least_zero z }
 {
-    if z < 0 { 0 } else { z }
+    z.max(0)
 }
 
 // The factor of a voltage, in percent.

@@ -9,6 +9,7 @@ use words::faults;
 const MOST_ENTRIES: i64 = 100;
 
 // The list whose count stands at a place, its entries of so many numbers; of 0 numbers, no list.
+#[tactic(auto, using(crate::proofs::Laws::said_few, crate::proofs::Laws::entries_few), unfolding(crate::specs::Shapes::list_at))]
 pub(crate) fn list_at(numbers: &[i64], at: usize, width: u8) -> Span
     requires { at ≤ 100000 }
     ensures is { result ≡ list_at numbers.now at width }
@@ -23,7 +24,7 @@ pub(crate) fn list_at(numbers: &[i64], at: usize, width: u8) -> Span
     }
     let z = whole::at(numbers, at);
     let start = at + 1;
-    let end = start + width as usize * said(z);
+    let end = start + usize::from(width) * said(z);
     Span {
         start,
         end,
@@ -32,27 +33,28 @@ pub(crate) fn list_at(numbers: &[i64], at: usize, width: u8) -> Span
 }
 
 // Whether as many numbers stand from a place on as a shape's end asks: so many, or groups of so many.
+#[tactic(auto, unfolding(crate::specs::Shapes::end_fault))]
 pub(crate) fn end_fault(numbers: &[i64], at: usize, tail: u16, group: u8) -> u8
     requires { at ≤ 110000 }
     ensures { result ≡ end_fault numbers.now at tail group }
 {
-    let least = at + tail as usize;
-    if numbers.len() < least {
+    let Some(left) = numbers.len().checked_sub(at + usize::from(tail)) else {
         return faults::TOO_FEW;
-    }
-    let left = numbers.len() - least;
+    };
     if group == 0 {
         return whole::unless(left == 0, faults::TOO_MANY, 0);
     }
-    whole::unless(left % group as usize == 0, faults::TOO_FEW, 0)
+    whole::unless(left % usize::from(group) == 0, faults::TOO_FEW, 0)
 }
 
 // How many entries a count says that there are.
+#[tactic(auto, using(whole::proofs::Signed::natural), unfolding(crate::specs::Shapes::said))]
 fn said(z: i64) -> usize
     ensures { result ≡ said z }
 {
     if whole::within(z, 0, MOST_ENTRIES) {
-        return z as usize;
+        z as usize
+    } else {
+        0
     }
-    0
 }

@@ -40,6 +40,7 @@ pub struct Earlier {
 }
 
 // Cuts a question's numbers by their shape.
+#[tactic(auto, unfolding(crate::specs::Shapes::cut_of))]
 pub fn cut(shape: Shape, numbers: &[i64]) -> Places
     ensures { result ≡ cut_of shape numbers.now }
 {
@@ -61,53 +62,42 @@ pub fn cut(shape: Shape, numbers: &[i64]) -> Places
 }
 
 // A number outside 0 to 255 is taken as 255.
+#[tactic(auto, unfolding(crate::specs::Numbers::byte_of))]
 pub fn byte_of(z: i64) -> u8
     ensures { result ≡ byte_of z }
 {
-    if whole::within(z, 0, 255) {
-        return z as u8;
-    }
-    255
+    u8::try_from(z).unwrap_or(255)
 }
 
-// Fills a run with numbers as bytes, zeros past their end.
+// Fills a run with numbers as bytes, zeros past their end. By its places: of what an adapter of `iter_mut`
+// writes a proof knows nothing.
+#[tactic(auto, using(whole::proofs::Runs::filled_next, whole::proofs::Runs::filled_all), unfolding(crate::specs::Numbers::as_bytes))]
 pub fn fill_bytes(numbers: &[i64], run: &mut [u8])
     ensures { run.new ≡ as_bytes numbers.now (length run.old) }
 {
-    let mut i = 0;
-    while i < run.len() {
+    for i in 0..run.len() {
         run[i] = byte_of(whole::at(numbers, i));
-        i += 1;
     }
 }
 
 // Earlier scores, as bytes.
+#[tactic(auto, unfolding(crate::specs::Inner::first_four))]
 pub fn first_four(numbers: &[i64]) -> Earlier
     ensures { result ≡ first_four numbers.now }
 {
     let mut scores = [0u8; 4];
     fill_bytes(numbers, &mut scores);
-    let n = numbers.len();
-    let count = if n < 4 { n } else { 4 };
+    let count = numbers.len().min(4);
     Earlier { count, scores }
 }
 
-// Fills a run with the first or the second number of each pair, zeros past their end.
+// Fills a run with the first or the second number of each pair, zeros past their end. It is written as above.
+#[tactic(auto, using(whole::proofs::Runs::filled_next, whole::proofs::Runs::filled_all), unfolding(crate::specs::Numbers::column))]
 pub fn column(pairs: &[i64], second: bool, run: &mut [i64])
     ensures { run.new ≡ column pairs.now (pick second 1 0) (length run.old) }
 {
-    let start = starts(second);
-    let mut i = 0;
-    while i < run.len() {
+    let start = usize::from(second);
+    for i in 0..run.len() {
         run[i] = whole::at(pairs, start + 2 * i);
-        i += 1;
     }
-}
-
-// Where the first number of a column stands.
-fn starts(second: bool) -> usize
-    ensures value { result ≡ pick second 1 0 }
-    ensures upper_bound { result ≤ 1 }
-{
-    if second { 1 } else { 0 }
 }

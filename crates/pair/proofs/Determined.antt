@@ -5,14 +5,9 @@ use Rattle.pair.proofs.convert.Reads as convert
 use Rattle.pair.proofs.convert.Kinds as convert_kinds
 use Rattle.pair.proofs.from_bits.Reads as from_bits
 use Rattle.pair.proofs.from_bits.Kinds as from_bits_kinds
-use Rattle.pair.proofs.refused_pair.Reads as refused_pair
-use Rattle.pair.proofs.refused_pair.Kinds as refused_pair_kinds
 
 convert_determined : Determined 0 convert_kinds.ps convert_kinds.r convert.Post
 convert_determined κs a x y s t p q = p ∙ sym q
 
 from_bits_determined : Determined 0 from_bits_kinds.ps from_bits_kinds.r from_bits.Post
 from_bits_determined κs a x y s t p q = p ∙ sym q
-
-refused_pair_determined : Determined 0 refused_pair_kinds.ps refused_pair_kinds.r refused_pair.Post
-refused_pair_determined κs a x y s t p q = p ∙ sym q

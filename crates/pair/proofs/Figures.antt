@@ -4,15 +4,18 @@ use mathlib.Core.Path.{◌≡◌, refl}
 use mathlib.Core.List.{List, [], ◌∷◌}
 use lib.IntN.{ℤ, pos, negsuc}
 use Rattle.whole.specs.Whole.{in_range, nearest, with_sign, half_up}
+use Rattle.std.specs.Prelude.{Result, Ok}
+use Rattle.units.specs.Refusals.{refused_as}
+use Rattle.units.specs.declared.refusal.Refusal.{Refusal}
 use Rattle.units.specs.Units.{millihertz, kilowatts}
 use Rattle.pair.specs.Single.{significand, exact_of, whole_of}
 use Rattle.pair.specs.declared.Rounded.{Rounded}
-use Rattle.pair.specs.Pair.{no_pair, rounded_bits}
+use Rattle.pair.specs.Pair.{rounded_bits}
 
-abbrev whole : ℤ → ℤ → Rounded
-whole f p = record { refusal = 0; frequency = millihertz f; power = kilowatts p }
+abbrev whole : ℤ → ℤ → Result Rounded Refusal
+whole f p = Ok (record { frequency = millihertz f; power = kilowatts p })
 
-figures : ◌≡◌ {A = List Rounded}
+figures : ◌≡◌ {A = List (Result Rounded Refusal)}
     (rounded_bits 1114636288 1120403456
     ∷ rounded_bits 1114631045 3270961529
     ∷ rounded_bits 1114636288 1056964608
@@ -54,20 +57,20 @@ figures : ◌≡◌ {A = List Rounded}
     ∷ whole (pos 60062) (pos 0)
     ∷ whole (pos 60063) (pos 0)
     ∷ whole (pos 60063) (pos 0)
-    ∷ no_pair 4
+    ∷ refused_as 4
     ∷ whole (pos 65000) (pos 0)
     ∷ whole (pos 55000) (pos 0)
     ∷ whole (pos 55000) (pos 0)
     ∷ whole (pos 60000) (pos 200000)
-    ∷ no_pair 4
-    ∷ no_pair 4
-    ∷ no_pair 4
-    ∷ no_pair 4
-    ∷ no_pair 17
-    ∷ no_pair 4
-    ∷ no_pair 4
-    ∷ no_pair 17
-    ∷ no_pair 17
+    ∷ refused_as 4
+    ∷ refused_as 4
+    ∷ refused_as 4
+    ∷ refused_as 4
+    ∷ refused_as 17
+    ∷ refused_as 4
+    ∷ refused_as 4
+    ∷ refused_as 17
+    ∷ refused_as 17
     ∷ whole (pos 60000) (pos 0)
     ∷ whole (pos 60000) (pos 0)
     ∷ [])

@@ -4,9 +4,9 @@
 ghost use Rattle.std.specs.Prelude.{◌<◌, ◌≤◌, ◌-◌, ◌*◌, ◌^◌, ◌≡◌, leb};
 ghost use Rattle.whole.specs.Whole.{half_up};
 ghost use Rattle.pair.specs.Single.{exponent_of, is_special, significand, signed_by, whole_of};
-ghost use Rattle.pair.specs.Pair.{no_pair, rounded_bits, rounded_pair, logged_bits};
+ghost use Rattle.pair.specs.Pair.{rounded_bits, rounded_pair, logged_bits};
 
-use units::{Kilowatts, Millihertz, limits, refusals};
+use units::{Kilowatts, Millihertz, Refusal, limits};
 
 // A second as the logger sends it: hertz and kilowatts.
 #[derive(Clone, Copy)]
@@ -15,82 +15,62 @@ pub struct Pair {
     pub power: f32,
 }
 
-// The same in whole numbers, or its refusal with zeros.
+// The same in whole numbers.
 #[derive(Clone, Copy)]
 pub struct Rounded {
-    pub refusal: u8,
     pub frequency: Millihertz,
     pub power: Kilowatts,
 }
 
-// The pair of two patterns of bits, or its refusal.
-#[derive(Clone, Copy)]
-pub enum Logged {
-    Finite(Pair),
-    Refused(u8),
-}
-
 // A pair in whole millihertz and kilowatts, or 17 or 4. A NaN alone has no bits, so it is found by the single.
 #[tactic(auto, using(crate::proofs::Pairs::converting), unfolding(crate::specs::Pair::rounded_pair))]
-pub fn convert(pair: Pair) -> Rounded
+pub fn convert(pair: Pair) -> Result<Rounded, Refusal>
     ensures { result ≡ rounded_pair pair }
 {
     let f = pair.frequency;
     let p = pair.power;
-    if (f != f) | (p != p) {
-        return refused_pair(refusals::NOT_FINITE);
+    if f.is_nan() | p.is_nan() {
+        return Err(Refusal::NotFinite);
     }
-    convert_bits(f32::to_bits(f), f32::to_bits(p))
+    convert_bits(f.to_bits(), p.to_bits())
 }
 
 // The pair that bits stand for, or 17.
-pub fn from_bits(frequency: u32, power: u32) -> Logged
+#[tactic(auto, using(crate::proofs::Pairs::standing), unfolding(crate::specs::Pair::logged_bits))]
+pub fn from_bits(frequency: u32, power: u32) -> Result<Pair, Refusal>
     ensures { result ≡ logged_bits frequency power }
 {
     if special(frequency) | special(power) {
-        return Logged::Refused(refusals::NOT_FINITE);
+        return Err(Refusal::NotFinite);
     }
-    let f = f32::from_bits(frequency);
-    let p = f32::from_bits(power);
-    Logged::Finite(Pair {
-        frequency: f,
-        power: p,
+    Ok(Pair {
+        frequency: f32::from_bits(frequency),
+        power: f32::from_bits(power),
     })
 }
 
 // The bits of a pair in whole millihertz and kilowatts, or 17 or 4.
-fn convert_bits(frequency: u32, power: u32) -> Rounded
-    ensures { result ≡ rounded_bits frequency power }
+#[tactic(auto, using(crate::proofs::Pairs::rounding))]
+fn convert_bits(f: u32, p: u32) -> Result<Rounded, Refusal>
+    ensures { result ≡ rounded_bits f p }
 {
-    if special(frequency) | special(power) {
-        return refused_pair(refusals::NOT_FINITE);
+    if special(f) | special(p) {
+        return Err(Refusal::NotFinite);
     }
-    if far(frequency) | far(power) {
-        return refused_pair(refusals::BAD_READING);
+    if far(f) | far(p) {
+        return Err(Refusal::BadReading);
     }
-    let f = whole_of(1_000, frequency);
-    let p = whole_of(1, power);
-    let known = whole::within(f, limits::LEAST_FREQUENCY, limits::MOST_FREQUENCY);
-    let held = whole::within(p, -limits::POWER, limits::POWER);
+    let frequency = whole_of(1_000, f);
+    let power = whole_of(1, p);
+    let known = whole::within(frequency, limits::LEAST_FREQUENCY, limits::MOST_FREQUENCY);
+    let held = whole::within(power, -limits::POWER, limits::POWER);
     if !(known & held) {
-        return refused_pair(refusals::BAD_READING);
+        return Err(Refusal::BadReading);
     }
-    Rounded {
-        refusal: 0,
-        frequency: Millihertz(f),
-        power: Kilowatts(p),
-    }
-}
-
-// A refusal's number, and zeros beside it.
-pub fn refused_pair(number: u8) -> Rounded
-    ensures { result ≡ no_pair number }
-{
-    Rounded {
-        refusal: number,
-        frequency: Millihertz(0),
-        power: Kilowatts(0),
-    }
+    Ok(Rounded {
+        frequency: Millihertz(frequency),
+        power: Kilowatts(power),
+    })
 }
 
 // Whether the bits are those of a NaN or an infinity.
@@ -126,11 +106,12 @@ fn whole_of(k: u64, bits: u32) -> i64
 }
 
 // The fraction with its leading one. The single is that over 2 ^ (150 - exponent).
+#[tactic(auto, using(crate::proofs::Singles::significand_is))]
 fn significand(bits: u32) -> u64
     requires { 0 < exponent_of bits }
     ensures { result ≡ significand bits }
 {
-    0x80_0000 + (bits % 0x80_0000) as u64
+    0x80_0000 + u64::from(bits % 0x80_0000)
 }
 
 // n / 2 ^ places to the nearest, a half going up.

@@ -3,13 +3,14 @@
 use Prim.Native.Nat.{ℕ, ◌+◌, ◌^◌, ◌<◌}
 use native.Mathlib.Omega.{arith}
 use mathlib.Core.Path.{◌≡◌, refl, sym, ap, ◌∙◌, subst}
-use mathlib.Core.Bool.{true, false}
 use mathlib.Core.List.{List, [], ◌∷◌, ◌++◌}
 use lib.Dec.{eqb}
 use lib.ListN.{length, get_or, take, drop, length-drop}
 use lib.Seq.{length-take-le, take-add, drop-drop}
 use borrow.Author.Tests.{eqb-true}
-use Rattle.whole.proofs.Choice.{by_test, both_passed, all_passed}
+use Rattle.std.specs.Prelude.{Ok}
+use Rattle.whole.proofs.Choice.{both_passed, all_passed}
+use Rattle.units.proofs.Numbered.{same_answer}
 use Rattle.units.specs.Refusals.{bad_kind}
 use Rattle.frame.specs.Digits.{digits_of, bytes_of}
 use Rattle.frame.specs.Numbers.{bytes_in}
@@ -17,12 +18,12 @@ use Rattle.frame.specs.Frame.{line_digits, line_refusal, with_sum, closed}
 use Rattle.frame.proofs.Numbers.{Bytes, bytes_take, bytes_drop, bytes_append, bytes_are, number_bytes, bytes_number}
 use Rattle.frame.proofs.Lines.{Sound, sound, opens, twelve, line_bytes, line_back, made_bytes, made_sound}
 use Rattle.frame.proofs.Frames.{close_right}
-use Rattle.pair_frame.specs.PairFrame.{pair_kind, number_at, second_in, frequency_in, power_in, sent_refusal, sent_in, no_sent, sent_of, pair_body, pair_line}
+use Rattle.pair_frame.specs.PairFrame.{pair_kind, number_at, second_in, frequency_in, power_in, sent_refusal, sent_in, sent_of, pair_body, pair_line}
 use Rattle.pair_frame.specs.declared.Sent.{Sent}
-use Rattle.pair_frame.proofs.PairFrames.{sent_number, sent_right}
+use Rattle.pair_frame.proofs.PairFrames.{sent_number, sent_right, sent_none}
 
 abbrev pub sent : ℕ → ℕ → ℕ → Sent
-sent second f p = record { refusal = 0; second = second; frequency = f; power = p }
+sent second f p = record { second = second; frequency = f; power = p }
 
 -- ---- written, then read
 
@@ -33,7 +34,7 @@ module _ (second f p : ℕ) where
   line_is : bytes_of (pair_line second f p) ≡ with_sum (pair_body second f p)
   line_is = made_bytes (pair_body second f p) refl body_bytes
 
-  pub read_written : second < 2 ^ 16 → f < 2 ^ 32 → p < 2 ^ 32 → sent_of (pair_line second f p) ≡ sent second f p
+  pub read_written : second < 2 ^ 16 → f < 2 ^ 32 → p < 2 ^ 32 → sent_of (pair_line second f p) ≡ Ok (sent second f p)
   unfolding sent_in with_sum
   read_written h g k =
       let line = pair_line second f p in
@@ -44,18 +45,14 @@ module _ (second f p : ℕ) where
       sym (sent_right line e (ap (λ (l : List ℕ). get_or l 0 0) line_is)) ∙ rw (a, b, c)
 
   -- the same of a lent run that the writer filled
-  pub read_filled : (run : List ℕ) → length run ≡ line_digits → second < 2 ^ 16 → f < 2 ^ 32 → p < 2 ^ 32 → sent_of (closed (pair_body second f p) run) ≡ sent second f p
+  pub read_filled : (run : List ℕ) → length run ≡ line_digits → second < 2 ^ 16 → f < 2 ^ 32 → p < 2 ^ 32 → sent_of (closed (pair_body second f p) run) ≡ Ok (sent second f p)
   read_filled run l h g k = ap sent_of (sym (close_right (pair_body second f p) run l).1) ∙ read_written h g k
 
 -- ---- read, then written
 
-module _ (line : List ℕ) (second f p : ℕ) (reads : sent_of line ≡ sent second f p) where
+module _ (line : List ℕ) (second f p : ℕ) (reads : sent_of line ≡ Ok (sent second f p)) where
   number_none : sent_refusal line ≡ 0
-  unfolding sent_of sent_in no_sent
-  number_none =
-      by_test (eqb (sent_refusal line) 0)
-      (λ (t : eqb (sent_refusal line) 0 ≡ true). eqb-true (sent_refusal line) 0 t)
-      (λ (t : eqb (sent_refusal line) 0 ≡ false). let e = rw t at reads in ap (λ (s : Sent). s.refusal) e)
+  number_none = sent_none line (sent second f p) reads
 
   passed : Sound line × (get_or (bytes_of line) 0 0 ≡ pair_kind)
   passed =
@@ -64,7 +61,7 @@ module _ (line : List ℕ) (second f p : ℕ) (reads : sent_of line ≡ sent sec
       (sound line b.0, eqb-true (get_or (bytes_of line) 0 0) pair_kind g.0)
 
   held : sent_in (bytes_of line) ≡ sent second f p
-  held = let s = passed in sent_right line (opens line s.0) s.1 ∙ reads
+  held = let s = passed in same_answer (sent_right line (opens line s.0) s.1 ∙ reads)
 
 -- a part of bytes is the bytes of its number
 part_again : (bs : List ℕ) (at n : ℕ) → at + n < length bs → Bytes bs → bytes_in n (number_at at n bs) ≡ take n (drop at bs)
@@ -95,7 +92,7 @@ body_again (x ∷ r) l k b =
     ∙ ap (joined (take 2 r) (take 4 (drop 2 r))) p
     ∙ parts_joined x r k
 
-module _ (line : List ℕ) (second f p : ℕ) (reads : sent_of line ≡ sent second f p) where
+module _ (line : List ℕ) (second f p : ℕ) (reads : sent_of line ≡ Ok (sent second f p)) where
   pub written_read : pair_line second f p ≡ line
   unfolding sent_in
   written_read =

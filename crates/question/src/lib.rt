@@ -42,9 +42,7 @@ pub fn reply(
     ensures short { result.written ≤ length out.old }
 {
     let row = words::question_of(word);
-    let shape = row.shape;
-    let question = row.question;
-    let places = numbers::cut(shape, numbers);
+    let places = numbers::cut(row.shape, numbers);
     let fault = whole::or_else(row.fault, whole::or_else(found, places.fault));
     let at = told_line(row.fault, line, found, place);
     if out.len() < ROOM {
@@ -53,14 +51,15 @@ pub fn reply(
             written: 0,
         };
     }
-    let written = tell(fault, at, question, numbers, places, out);
+    let written = tell(fault, at, row.question, numbers, places, out);
     Answered {
         refusal: 0,
-        written: written,
+        written,
     }
 }
 
 // The line that a fault is told with.
+#[tactic(auto, unfolding(crate::specs::Questions::told_line))]
 fn told_line(unknown: u8, line: u64, found: u8, place: u64) -> u64
     ensures { result ≡ told_line unknown line found place }
 {
@@ -103,10 +102,7 @@ fn put_answer(question: Question, numbers: &[i64], places: Places, out: &mut [u8
         Question::Series(asks) => put_series(asks, numbers, places, out),
         Question::Frame(asks) => put_framed(asks, numbers, places, out),
         Question::PairFrame => put_pair(numbers, out),
-        Question::Unknown => {
-            let none = [0i64; 1];
-            lines::put_line(0, &none[..0], out)
-        }
+        Question::Unknown => lines::put_line(0, &[], out),
     }
 }
 
@@ -116,12 +112,11 @@ fn put_rule(rule: Rule, numbers: &[i64], places: Places, out: &mut [u8]) -> usiz
     ensures text { out.new ≡ put out.old 0 (line_text (rule_prints rule numbers.now places)) }
     ensures short { result ≤ room }
 {
-    let first = places.first;
     let few = rules::answer(
         rule,
         parts::head_of(numbers),
-        first.counted,
-        parts::part(numbers, first.start, first.end),
+        places.first.counted,
+        parts::part(numbers, places.first.start, places.first.end),
         parts::rest(numbers, places.tail),
     );
     put_few(few, out)
@@ -135,9 +130,7 @@ fn put_few(few: Few, out: &mut [u8]) -> usize
     ensures text { out.new ≡ put out.old 0 (line_text (unboxed few)) }
     ensures short { result ≤ room }
 {
-    let n = few.count;
-    let values = few.values;
-    lines::put_line(few.refusal, &values[..n], out)
+    lines::put_line(few.refusal, &few.values[..few.count], out)
 }
 
 fn put_hour(hour: Hour, numbers: &[i64], places: Places, out: &mut [u8]) -> usize
@@ -146,14 +139,12 @@ fn put_hour(hour: Hour, numbers: &[i64], places: Places, out: &mut [u8]) -> usiz
     ensures text { out.new ≡ put out.old 0 (line_text (hour_prints hour numbers.now places)) }
     ensures short { result ≤ room }
 {
-    let first = places.first;
-    let second = places.second;
     let few = hours::answer(
         hour,
         parts::head_of(numbers),
-        parts::part(numbers, first.start, first.end),
-        second.counted,
-        parts::part(numbers, second.start, second.end),
+        parts::part(numbers, places.first.start, places.first.end),
+        places.second.counted,
+        parts::part(numbers, places.second.start, places.second.end),
         parts::rest(numbers, places.tail),
     );
     put_few(few, out)
@@ -166,19 +157,16 @@ fn put_series(asks: Series, numbers: &[i64], places: Places, out: &mut [u8]) -> 
     ensures short { result ≤ room }
 {
     let mut fields = [0i64; limits::SECONDS];
-    let first = places.first;
-    let second = places.second;
     let ran = series::answer(
         asks,
         parts::head_of(numbers),
-        parts::part(numbers, first.start, first.end),
-        second.counted,
-        parts::part(numbers, second.start, second.end),
+        parts::part(numbers, places.first.start, places.first.end),
+        places.second.counted,
+        parts::part(numbers, places.second.start, places.second.end),
         parts::rest(numbers, places.tail),
         &mut fields,
     );
-    let n = ran.count;
-    lines::put_line(ran.refusal, &fields[..n], out)
+    lines::put_line(ran.refusal, &fields[..ran.count], out)
 }
 
 fn put_framed(asks: Framing, numbers: &[i64], places: Places, out: &mut [u8]) -> usize
@@ -187,15 +175,13 @@ fn put_framed(asks: Framing, numbers: &[i64], places: Places, out: &mut [u8]) ->
     ensures text { out.new ≡ put out.old 0 (frame_text (frame_prints asks numbers.now places)) }
     ensures short { result ≤ room }
 {
-    let first = places.first;
-    let second = places.second;
     let framed = frames::answer(
         asks,
         parts::head_of(numbers),
         parts::head_of(parts::rest(numbers, 2)),
-        parts::part(numbers, first.start, first.end),
-        second.counted,
-        parts::part(numbers, second.start, second.end),
+        parts::part(numbers, places.first.start, places.first.end),
+        places.second.counted,
+        parts::part(numbers, places.second.start, places.second.end),
         parts::rest(numbers, places.tail),
     );
     frame_lines::put_frames(framed, out)

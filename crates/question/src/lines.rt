@@ -28,10 +28,8 @@ fn put_fields(out: &mut [u8], at: usize, fields: &[i64]) -> usize
     ensures short { result ≤ at + most_fields }
 {
     let mut to = at;
-    let mut i = 0;
-    while i < fields.len() {
-        to = put_field(out, to, fields[i]);
-        i += 1;
+    for z in fields {
+        to = put_field(out, to, *z);
     }
     to
 }

@@ -8,10 +8,8 @@ pub(crate) fn head_of(numbers: &[i64]) -> [i64; 12]
     ensures { result ≡ head_of numbers.now }
 {
     let mut head = [0i64; 12];
-    let mut i = 0;
-    while i < 12 {
-        head[i] = whole::at(numbers, i);
-        i += 1;
+    for (i, place) in head.iter_mut().enumerate() {
+        *place = whole::at(numbers, i);
     }
     head
 }
@@ -20,10 +18,7 @@ pub(crate) fn head_of(numbers: &[i64]) -> [i64; 12]
 pub(crate) fn rest(numbers: &[i64], at: usize) -> &[i64]
     ensures { result.now ≡ drop at numbers.now }
 {
-    if at <= numbers.len() {
-        return &numbers[at..];
-    }
-    &numbers[..0]
+    numbers.get(at..).unwrap_or(&[])
 }
 
 // The numbers from a place on, up to another.
@@ -31,12 +26,5 @@ pub(crate) fn part(numbers: &[i64], start: usize, end: usize) -> &[i64]
     ensures { result.now ≡ part numbers.now start end }
 {
     let left = rest(numbers, start);
-    if end <= start {
-        return &left[..0];
-    }
-    let n = end - start;
-    if n <= left.len() {
-        return &left[..n];
-    }
-    left
+    left.get(..end.saturating_sub(start)).unwrap_or(left)
 }

@@ -1,5 +1,5 @@
 -- A ramp that is accepted is formula 1, second by second, and an hour's plan the ramps of its quarters; and what fits is accepted. Over the contracts of
--- `ramp` and `plan` as the source states them: they are equations, and a number that is 0 has let every test through. Assumes nothing.
+-- `ramp` and `plan` as the source states them: they are equations, and an answer that is no refusal has let every test through. Assumes nothing.
 use Prim.Native.Nat.{ℕ}
 use mathlib.Core.Path.{◌≡◌, sym, ap, ◌∙◌, subst}
 use mathlib.Core.List.{List}
@@ -15,6 +15,9 @@ use Rattle.whole.specs.Whole.{Within}
 use Rattle.whole.proofs.Choice.{kept_new}
 use Rattle.whole.proofs.Runs.{length_listed, get_d_listed}
 use Rattle.units.specs.Limits.{most_transfer, seconds_of_quarter, seconds_of_hour}
+use Rattle.std.specs.Prelude.{Result, Ok}
+use Rattle.units.specs.declared.refusal.Refusal.{Refusal}
+use Rattle.units.proofs.Numbered.{let_through, answered_ok}
 use Rattle.units.specs.declared.Kilowatts.{Kilowatts}
 use Rattle.ramp.specs.Ramp.{ramp_at, ramp_of, ramp_refusal, ramp_left, plan_of, plan_refusal, plan_left}
 use Rattle.ramp.proofs.Laws.{within_target, plan_at, length_plan}
@@ -40,16 +43,16 @@ pub ramp_none : (last target : Kilowatts) (places : ℕ) → places ≡ seconds_
 unfolding ramp_refusal
 ramp_none last target places long l t = rw (eq-eqb places seconds_of_quarter long, within_target last.0 l, within_target target.0 t)
 
-module _ (κs : Lfts 1) (last target : Kilowatts) (seconds : MutBor (List ℤ)) (r : ℕ) (s : AtExit (ended_of 1 ramp_kinds.ps ramp_kinds.r) κs)
+module _ (κs : Lfts 1) (last target : Kilowatts) (seconds : MutBor (List ℤ)) (r : Result (Unit {0}) Refusal) (s : AtExit (ended_of 1 ramp_kinds.ps ramp_kinds.r) κs)
     (met : ramp.Post κs (last, (target, (seconds, tt))) r s) where
-  pub ramp_accepted : r ≡ 0 → Ramped last.0 target.0 (ramp_run κs s)
+  pub ramp_accepted : r ≡ Ok tt → Ramped last.0 target.0 (ramp_run κs s)
   unfolding ramp_left
-  ramp_accepted none = subst (Ramped last.0 target.0) (sym (met.1 ∙ kept_new _ _ (sym met.0 ∙ none))) (ramp_ramped last.0 target.0)
+  ramp_accepted none = subst (Ramped last.0 target.0) (sym (met.1 ∙ kept_new _ _ (let_through _ tt (sym met.0 ∙ none)))) (ramp_ramped last.0 target.0)
 
   pub ramp_fit_accepted : length seconds.now ≡ seconds_of_quarter → Within most_transfer last.0 → Within most_transfer target.0
-      → (r ≡ 0) × Ramped last.0 target.0 (ramp_run κs s)
+      → (r ≡ Ok tt) × Ramped last.0 target.0 (ramp_run κs s)
   ramp_fit_accepted long l t =
-      let none = met.0 ∙ ramp_none last target (length seconds.now) long l t in
+      let none = met.0 ∙ answered_ok tt (ramp_none last target (length seconds.now) long l t) in
       (none, ramp_accepted none)
 
 -- ---- an hour
@@ -61,11 +64,11 @@ pub plan_none : (targets : List ℤ) (places : ℕ) → PlanFits targets places 
 unfolding plan_refusal
 plan_none targets places f = rw (eq-eqb (length targets) 5 f.five, eq-eqb places seconds_of_hour f.long, f.inside)
 
-module _ (κs : Lfts 2) (targets : Bor (List ℤ)) (seconds : MutBor (List ℤ)) (r : ℕ) (s : AtExit (ended_of 2 plan_kinds.ps plan_kinds.r) κs)
+module _ (κs : Lfts 2) (targets : Bor (List ℤ)) (seconds : MutBor (List ℤ)) (r : Result (Unit {0}) Refusal) (s : AtExit (ended_of 2 plan_kinds.ps plan_kinds.r) κs)
     (met : plan.Post κs (targets, (seconds, tt)) r s) where
-  pub plan_accepted : r ≡ 0 → Planned targets.now (plan_run κs s)
+  pub plan_accepted : r ≡ Ok tt → Planned targets.now (plan_run κs s)
   unfolding plan_left
-  plan_accepted none = subst (Planned targets.now) (sym (met.1 ∙ kept_new _ _ (sym met.0 ∙ none))) (plan_planned targets.now)
+  plan_accepted none = subst (Planned targets.now) (sym (met.1 ∙ kept_new _ _ (let_through _ tt (sym met.0 ∙ none)))) (plan_planned targets.now)
 
-  pub plan_fit_accepted : PlanFits targets.now (length seconds.now) → (r ≡ 0) × Planned targets.now (plan_run κs s)
-  plan_fit_accepted f = let none = met.0 ∙ plan_none targets.now (length seconds.now) f in (none, plan_accepted none)
+  pub plan_fit_accepted : PlanFits targets.now (length seconds.now) → (r ≡ Ok tt) × Planned targets.now (plan_run κs s)
+  plan_fit_accepted f = let none = met.0 ∙ answered_ok tt (plan_none targets.now (length seconds.now) f) in (none, plan_accepted none)

@@ -1,7 +1,7 @@
 -- What a ramp answers, for the crates above: it stays between its targets, reaches the new one with second 300, and an hour's plan is the ramps of
 -- its quarters. By the sign of the difference. Assumes nothing.
 use mathlib.Core.Path.{◌≡◌, refl, sym, ap, ap₂, ◌∙◌}
-use mathlib.Core.Bool.{true, false}
+use mathlib.Core.Bool.{Bool, true, false}
 use mathlib.Core.List.{List, [], ◌∷◌}
 use Prim.Native.Nat.{ℕ, zero, suc, ◌+◌, ◌*◌, ◌/◌, ◌%◌, ◌≤◌, ◌<◌}
 use native.Mathlib.Nat.{mul-le-mul_left, zero-add}
@@ -10,6 +10,7 @@ use lib.Dec.{eqb, leb, lit<}
 use lib.IntN.{ℤ, pos, negsuc, nat_abs, ◌+ℤ◌, ◌-ℤ◌, ◌*ℤ◌, +ℤ_comm, +ℤ_idr, +ℤ_invr, -ℤ-+ℤ_cancel, zero-*ℤ}
 use lib.ListN.{length, get_or, get_or-eq_default}
 use borrow.Author.Tests.{eqb-true, eq-eqb, leb-true, leb-false}
+use Rattle.whole.specs.Choice.{in_order}
 use Rattle.whole.specs.Runs.{listed}
 use Rattle.whole.specs.Whole.{minus, up, down, Within, away, with_sign, round_up}
 use Rattle.whole.proofs.Choice.{by_test, all_passed}
@@ -18,7 +19,7 @@ use Rattle.whole.proofs.Runs.{length_listed, listed_same, get_d_listed}
 use Rattle.whole.proofs.Rounding.{away_within, away_only, sign_up, sign_down}
 use Rattle.whole.proofs.Sums.{in_within, within_in, all_inside, inside_all}
 use Rattle.units.specs.Limits.{most_transfer, is_transfer, are_transfers, seconds_of_quarter, seconds_of_hour, seconds_of_ramp}
-use Rattle.units.specs.Refusals.{wrong_length, bad_transfer}
+use Rattle.units.specs.Refusals.{wrong_length, bad_transfer, told_number, result_by}
 use Rattle.units.specs.declared.Kilowatts.{Kilowatts}
 use Rattle.ramp.specs.Ramp.{ramp_at, ramp_of, ramp_refusal, transfer_at, plan_of, plan_refusal, plan_left}
 use Rattle.ramp.specs.Accepted.{PlanFits}
@@ -38,6 +39,17 @@ unfolding ramp_refusal
 ramp_fit last target places e =
     let p = all_passed ((eqb places seconds_of_quarter, wrong_length) ∷ (is_transfer last.0, bad_transfer) ∷ (is_transfer target.0, bad_transfer) ∷ []) refl e in
     (eqb-true places seconds_of_quarter p.0, (in_within p.1.0, in_within p.1.1.0))
+
+-- the number of a ramp's answer is that of its tests
+pub ramp_number : (last target : Kilowatts) (places : ℕ) → told_number (result_by (ramp_refusal last target places) (tt {0})) ≡ ramp_refusal last target places
+unfolding ramp_refusal
+ramp_number last target places = by (eqb places seconds_of_quarter) (is_transfer last.0) (is_transfer target.0)
+  where
+    by : (a b c : Bool) → let k = in_order ((a, wrong_length) ∷ (b, bad_transfer) ∷ (c, bad_transfer) ∷ []) in told_number (result_by k (tt {0})) ≡ k
+    by false b c = refl
+    by true false c = refl
+    by true true false = refl
+    by true true true = refl
 
 -- ---- a ramp stays between its targets
 

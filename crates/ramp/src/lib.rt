@@ -4,51 +4,52 @@
 ghost use Rattle.std.specs.Prelude.{◌≡◌, ℕ, ◌*◌, ◌≤◌, ◌<◌, pos, ◌*ℤ◌, length};
 ghost use Rattle.whole.specs.Whole.{Within, away};
 ghost use Rattle.units.specs.Limits.{most_transfer, seconds_of_quarter, seconds_of_ramp};
-ghost use Rattle.units.specs.Units.{kilowatts};
+ghost use Rattle.units.specs.Refusals.{result_by};
 ghost use Rattle.ramp.specs.Ramp.{ramp_at, ramp_of, ramp_refusal, ramp_left, plan_of, plan_refusal, plan_left};
 
-use units::{Kilowatts, limits};
+use units::{Kilowatts, Refusal, limits};
 
 const LEAST_TRANSFER: i64 = -limits::TRANSFER;
 
 // What a second's part of the way is divided by.
 const RAMP: i64 = limits::RAMP as i64;
 
-// Fills a run of 900 with a quarter's seconds 1 to 900; a refused run stays as it was.
-pub fn ramp(last: Kilowatts, target: Kilowatts, seconds: &mut [i64]) -> u8
-    ensures { (result ≡ ramp_refusal last target (length seconds.old)) × (seconds.new ≡ ramp_left last target seconds.old) }
+// Fills a run of 900 with a quarter's seconds 1 to 900; or 1 or 10, and a refused run stays as it was.
+#[tactic(auto, using(crate::proofs::Laws::ramp_fit, units::proofs::Numbered::let_through), unfolding(crate::specs::Ramp::ramp_left))]
+pub fn ramp(last: Kilowatts, target: Kilowatts, seconds: &mut [i64]) -> Result<(), Refusal>
+    ensures { (result ≡ result_by (ramp_refusal last target (length seconds.old)) tt) × (seconds.new ≡ ramp_left last target seconds.old) }
 {
-    let from = last.0;
-    let to = target.0;
-    let k = refusal(from, to, seconds.len());
-    if k == 0 {
-        fill(from, to, seconds);
-    }
-    k
+    refusal(last, target, seconds.len())?;
+    fill(last.0, target.0, seconds);
+    Ok(())
 }
 
 // Fills a run of 3,600 with an hour's transfers by its five targets: the one before the hour and those of its quarters.
-// A refused run stays as it was.
-pub fn plan(targets: &[i64], seconds: &mut [i64]) -> u8
-    ensures { (result ≡ plan_refusal targets.now (length seconds.old)) × (seconds.new ≡ plan_left targets.now seconds.old) }
+// Or 1 or 10, and a refused run stays as it was.
+#[tactic(auto, using(units::proofs::Numbered::let_through), unfolding(crate::specs::Ramp::plan_left))]
+pub fn plan(targets: &[i64], seconds: &mut [i64]) -> Result<(), Refusal>
+    ensures { (result ≡ result_by (plan_refusal targets.now (length seconds.old)) tt) × (seconds.new ≡ plan_left targets.now seconds.old) }
 {
-    let k = plan_refusal(targets, seconds.len());
-    if k == 0 {
-        fill_hour(targets, seconds);
-    }
-    k
+    plan_refusal(targets, seconds.len())?;
+    fill_hour(targets, seconds);
+    Ok(())
 }
 
-// 1, 10; 0 lets the ramp through.
-fn refusal(last: i64, target: i64, places: usize) -> u8
-    ensures { result ≡ ramp_refusal (kilowatts last) (kilowatts target) places }
+// 1, 10 of a ramp.
+#[tactic(auto, unfolding(crate::specs::Ramp::ramp_refusal))]
+fn refusal(last: Kilowatts, target: Kilowatts, places: usize) -> Result<(), Refusal>
+    ensures { result ≡ result_by (ramp_refusal last target places) tt }
 {
-    let length = places == limits::QUARTER;
-    let on_target = whole::within(target, LEAST_TRANSFER, limits::TRANSFER);
-    let on_last = whole::within(last, LEAST_TRANSFER, limits::TRANSFER);
-    let rest = whole::unless(on_target, units::refusals::BAD_TRANSFER, 0);
-    let transfers = whole::unless(on_last, units::refusals::BAD_TRANSFER, rest);
-    whole::unless(length, units::refusals::WRONG_LENGTH, transfers)
+    if places != limits::QUARTER {
+        return Err(Refusal::WrongLength);
+    }
+    if !whole::within(last.0, LEAST_TRANSFER, limits::TRANSFER) {
+        return Err(Refusal::BadTransfer);
+    }
+    if !whole::within(target.0, LEAST_TRANSFER, limits::TRANSFER) {
+        return Err(Refusal::BadTransfer);
+    }
+    Ok(())
 }
 
 // Seconds 1 to 900, from place 0 on: those that move, then the target.
@@ -56,20 +57,15 @@ fn fill(last: i64, target: i64, seconds: &mut [i64])
     requires { (length seconds.old ≡ seconds_of_quarter) × (Within most_transfer last × Within most_transfer target) }
     ensures { seconds.new ≡ ramp_of last target }
 {
-    let moving = moving(last, target);
-    let mut i = 0;
-    while i < moving {
-        let power = ramping(last, target, i + 1);
-        seconds[i] = power;
-        i += 1;
+    let (moves, level) = seconds.split_at_mut(moving(last, target));
+    for (i, second) in moves.iter_mut().enumerate() {
+        *second = ramping(last, target, i + 1);
     }
-    while i < limits::QUARTER {
-        seconds[i] = target;
-        i += 1;
-    }
+    level.fill(target);
 }
 
 // How many seconds move: none where the target stays what it was.
+#[tactic(auto, using(crate::proofs::Laws::ramp_level), unfolding(crate::specs::Ramp::ramp_at))]
 fn moving(last: i64, target: i64) -> usize
     ensures { (result ≤ seconds_of_ramp) × ((n : ℕ) → result < n → ramp_at last target n ≡ target) }
 {
@@ -98,15 +94,18 @@ fn ramped(apart: i64, n: usize) -> i64
     whole::away(apart * (n as i64), RAMP)
 }
 
-// 1, 10; 0 lets the plan through.
-fn plan_refusal(targets: &[i64], places: usize) -> u8
-    ensures { result ≡ plan_refusal targets.now places }
+// 1, 10 of a plan.
+#[tactic(auto, unfolding(crate::specs::Ramp::plan_refusal))]
+fn plan_refusal(targets: &[i64], places: usize) -> Result<(), Refusal>
+    ensures { result ≡ result_by (plan_refusal targets.now places) tt }
 {
-    let inside = whole::all_within(targets, LEAST_TRANSFER, limits::TRANSFER);
-    let transfers = whole::unless(inside, units::refusals::BAD_TRANSFER, 0);
-    let long = places == limits::SECONDS;
-    let rest = whole::unless(long, units::refusals::WRONG_LENGTH, transfers);
-    whole::unless(targets.len() == 5, units::refusals::WRONG_LENGTH, rest)
+    if (targets.len() != 5) | (places != limits::SECONDS) {
+        return Err(Refusal::WrongLength);
+    }
+    if !whole::all_within(targets, LEAST_TRANSFER, limits::TRANSFER) {
+        return Err(Refusal::BadTransfer);
+    }
+    Ok(())
 }
 
 // The four quarters, one after the other.
@@ -114,14 +113,9 @@ fn fill_hour(targets: &[i64], seconds: &mut [i64])
     requires { plan_refusal targets.now (length seconds.old) ≡ 0 }
     ensures { seconds.new ≡ plan_of targets.now }
 {
-    let mut q = 0;
-    while q < 4 {
-        let last = targets[q];
-        let next = q + 1;
-        let target = targets[next];
+    for q in 0..4 {
         let start = q * limits::QUARTER;
-        let end = start + limits::QUARTER;
-        fill(last, target, &mut seconds[start..end]);
-        q = next;
+        let quarter = &mut seconds[start..start + limits::QUARTER];
+        fill(targets[q], targets[q + 1], quarter);
     }
 }

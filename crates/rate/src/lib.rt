@@ -16,6 +16,7 @@ pub struct Rated {
 
 // The hourly rate of 3,600 scores: the smallest of their rolling rates. The first three look back into the earlier
 // scores: the last three of the hour before, oldest first, or none.
+#[tactic(auto, using(crate::proofs::Rates::before_refused, crate::proofs::Rates::before_fine, crate::proofs::Rates::read_back, crate::proofs::Rates::rate_after_is))]
 pub fn hourly_rate(earlier: &[u8], scores: &[u8]) -> Rated
     ensures { result ≡ hourly_rate earlier.now scores.now }
 {
@@ -38,21 +39,19 @@ pub fn earlier_fits(count: usize) -> bool
     (count == 0) | (count == limits::EARLIER)
 }
 
-// Whether each is a score.
+// Whether each is a score. It goes on past one that is none, so that several are tested at a time.
 pub fn are_scores(scores: &[u8]) -> bool
     ensures { result ≡ are_scores scores.now }
 {
     let mut all = true;
-    let mut i = 0;
-    while i < scores.len() {
-        let score = scores[i];
-        all = all & (score <= limits::SCORE);
-        i += 1;
+    for score in scores {
+        all &= *score <= limits::SCORE;
     }
     all
 }
 
 // 1, 4: all but the test of the hour's own scores, which the pass over them makes.
+#[tactic(auto, unfolding(crate::specs::Inner::earlier_refusal))]
 fn earlier_refusal(earlier: &[u8], seconds: usize) -> u8
     ensures { result ≡ earlier_refusal earlier.now seconds }
 {
@@ -65,10 +64,7 @@ fn earlier_refusal(earlier: &[u8], seconds: usize) -> u8
 fn earlier_at(earlier: &[u8], place: usize) -> u8
     ensures { result ≡ get_or earlier.now place 0 }
 {
-    if place < earlier.len() {
-        return earlier[place];
-    }
-    0
+    earlier.get(place).copied().unwrap_or(0)
 }
 
 fn no_rate(number: u8) -> Rated
@@ -87,43 +83,18 @@ fn rate_after(last: u8, second: u8, third: u8, scores: &[u8]) -> Rated
 {
     let mut all = true;
     let mut low = limits::SCORE;
-    let mut a = last;
-    let mut b = second;
-    let mut c = third;
-    let mut i = 0;
-    while i < scores.len() {
-        let x = scores[i];
-        all = all & (x <= limits::SCORE);
-        low = smaller(low, largest_of(x, a, b, c));
-        c = b;
-        b = a;
-        a = x;
-        i += 1;
+    let (mut a, mut b, mut c) = (last, second, third);
+    for x in scores {
+        all &= *x <= limits::SCORE;
+        low = low.min((*x).max(a.max(b.max(c))));
+        (a, b, c) = (*x, a, b);
     }
     if all {
-        return Rated {
+        Rated {
             refusal: 0,
             rate: low,
-        };
+        }
+    } else {
+        no_rate(refusals::BAD_READING)
     }
-    no_rate(refusals::BAD_READING)
-}
-
-fn smaller(a: u8, b: u8) -> u8
-    ensures { result ≡ min a b }
-{
-    if b < a { b } else { a }
-}
-
-// The largest of a window's four scores.
-fn largest_of(x: u8, a: u8, b: u8, c: u8) -> u8
-    ensures { result ≡ max x (max a (max b c)) }
-{
-    larger(x, larger(a, larger(b, c)))
-}
-
-fn larger(a: u8, b: u8) -> u8
-    ensures { result ≡ max a b }
-{
-    if b < a { a } else { b }
 }

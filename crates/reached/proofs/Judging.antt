@@ -32,9 +32,6 @@ module _ (threshold : ℕ) (window : List ℕ) where
     pub stays : stays_below threshold window ≡ stays_below threshold (drop k window)
     pub count : read_in threshold window ≡ k + read_in threshold (drop k window)
 
-  pub read_to_none : ReadTo 0
-  read_to_none = record { stays = refl; count = omega arith }
-
   module _ (k : ℕ) (r : ReadTo k) where
     -- one more that is below
     pub read_to_more : k < length window → get_or window k 0 < threshold → ReadTo (k + 1)

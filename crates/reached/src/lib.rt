@@ -20,6 +20,7 @@ pub struct Verdict {
 }
 
 // 3,600 scores, after the last three of the hour before, oldest first, or none.
+#[tactic(auto, using(crate::proofs::Answers::threshold_fit, crate::proofs::Answers::hour_verdict, crate::proofs::Answers::hour_no_verdict))]
 pub fn reached(earlier: &[u8], scores: &[u8], threshold: u8) -> Verdict
     ensures { result ≡ hour_reached earlier.now scores.now threshold }
 {
@@ -31,6 +32,7 @@ pub fn reached(earlier: &[u8], scores: &[u8], threshold: u8) -> Verdict
 }
 
 // 1, 4, 5.
+#[tactic(auto, unfolding(crate::specs::Reached::verdict_refusal))]
 fn refusal(earlier: &[u8], scores: &[u8], threshold: u8) -> u8
     ensures { result ≡ verdict_refusal earlier.now scores.now threshold }
 {
@@ -60,36 +62,30 @@ fn first_below(earlier: &[u8], scores: &[u8], threshold: u8) -> Verdict
     ensures { result ≡ verdict_of earlier.now scores.now threshold }
 {
     let mut read = 0;
-    let mut i = 0;
-    'seconds: loop {
-        if scores.len() <= i {
-            break 'seconds Verdict {
-                refusal: 0,
-                reached: true,
-                second: 0,
-                judged: i,
-                read,
-            };
-        }
+    'seconds: for i in 0..scores.len() {
         let width = width(earlier.len() + i);
-        let mut k = 0;
-        while k < width {
+        for k in 0..width {
             let score = score_back(earlier, scores, i, k);
             read += 1;
             if threshold <= score {
-                i += 1;
                 continue 'seconds;
             }
-            k += 1;
         }
         let second = i + 1;
-        break 'seconds Verdict {
+        return Verdict {
             refusal: 0,
             reached: false,
             second,
             judged: second,
             read,
         };
+    }
+    Verdict {
+        refusal: 0,
+        reached: true,
+        second: 0,
+        judged: scores.len(),
+        read,
     }
 }
 

@@ -15,10 +15,10 @@ use Rattle.whole.proofs.Choice.{by_test}
 use Rattle.units.specs.Limits.{most_bands}
 use Rattle.records.specs.declared.Band.{Band}
 use Rattle.records.specs.declared.Columns.{Columns}
-use Rattle.bands.specs.declared.Factored.{Factored}
-use Rattle.bands.specs.Bands.{bands_fit, bands_refusal, factor_refusal, with_factor, factor_answer}
+use Rattle.units.specs.Refusals.{result_by}
+use Rattle.bands.specs.Bands.{bands_fit, bands_refusal, factor_refusal, factor_answer}
 use Rattle.records.specs.Records.{thresholds_of, factors_of, records_refusal, records_answer}
-use Rattle.records.specs.Inner.{none, next, gathered, refusal_in, gathered_answer}
+use Rattle.records.specs.Inner.{none, next, gathered, passing, refusal_in, gathered_answer}
 
 -- the filled places of a column with one number more
 one_more_lem : (l : List ℤ) (n : ℕ) (x : ℤ) (xs : List ℤ) → n < length l → take (n + 1) (set l n x) ++ xs ≡ take n l ++ (x ∷ xs)
@@ -89,7 +89,7 @@ module _ (bands : List Band) where
       rw (e, r.thresholds, r.factors)
 
   same_many : most_bands < length bands → Same
-  unfolding none gathered_answer records_answer factor_answer factor_refusal with_factor
+  unfolding none gathered_answer records_answer factor_answer factor_refusal
   same_many h rate =
       let n : columns.count ≡ most_bands + 1 = too_many_lem none bands (omega arith) (omega arith) in
       let u : bands_fit (thresholds_of bands) (factors_of bands) ≡ false = many_unfit (thresholds_of bands) (factors_of bands) (simp length-map h) in
@@ -101,6 +101,8 @@ module _ (bands : List Band) where
       (λ (e : leb (length bands) most_bands ≡ false). same_many (leb-false (length bands) most_bands e))
 
   -- the number alone, by the answer at rate 0
-  pub refusal_in_lem : refusal_in (gathered none bands) ≡ records_refusal bands
-  unfolding refusal_in records_refusal records_answer bands_refusal factor_answer factor_refusal with_factor
-  refusal_in_lem = ap (λ (x : Factored). x.refusal) (answer_in_lem 0)
+  pub refusal_in_lem : refusal_in (gathered none bands) ≡ result_by (records_refusal bands) (tt {0})
+  unfolding refusal_in records_refusal records_answer bands_refusal factor_answer factor_refusal
+  refusal_in_lem =
+      ap passing (answer_in_lem 0)
+      ∙ by_test (bands_fit (thresholds_of bands) (factors_of bands)) (λ e. rw e) (λ e. rw e)

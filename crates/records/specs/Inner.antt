@@ -1,13 +1,13 @@
 -- What only mirrors the code: two columns of 16 places that records are gathered into, one after the other. More than 16 records leave no more
 -- than their being too many.
-use Rattle.std.specs.Prelude.{ℕ, ◌+◌, List, [], ◌∷◌, leb, ltb, pos, set, replicate, take}
+use Rattle.std.specs.Prelude.{ℕ, ◌+◌, List, [], ◌∷◌, Result, Ok, Err, leb, ltb, ℤ, pos, set, replicate, take}
 use Rattle.whole.specs.Choice.{pick}
 use Rattle.units.specs.Limits.{most_bands}
-use Rattle.units.specs.Refusals.{bad_bands}
+use Rattle.units.specs.Refusals.{bad_bands, refused_as}
+use Rattle.units.specs.declared.refusal.Refusal.{Refusal}
 use Rattle.records.specs.declared.Band.{Band}
 use Rattle.records.specs.declared.Columns.{Columns}
-use Rattle.bands.specs.declared.Factored.{Factored}
-use Rattle.bands.specs.Bands.{with_factor, factor_answer}
+use Rattle.bands.specs.Bands.{factor_answer}
 
 unfoldable pub none : Columns
 none = record { thresholds = replicate most_bands (pos 0); factors = replicate most_bands (pos 0); count = 0 }
@@ -24,10 +24,15 @@ gathered c [] = c
 gathered c (b ∷ bs) = gathered (next c b) bs
 
 -- the rule on the places that are filled
-unfoldable pub gathered_answer : Columns → ℕ → Factored
+unfoldable pub gathered_answer : Columns → ℕ → Result ℤ Refusal
 gathered_answer c rate =
-    pick (leb c.count most_bands) (factor_answer (take c.count c.thresholds) (take c.count c.factors) rate) (with_factor bad_bands (pos 0))
+    pick (leb c.count most_bands) (factor_answer (take c.count c.thresholds) (take c.count c.factors) rate) (refused_as bad_bands)
+
+-- what an answer says of its refusal
+abbrev pub passing : Result ℤ Refusal → Result (Unit {0}) Refusal
+passing (Ok f) = Ok tt
+passing (Err r) = Err r
 
 -- whether bands fit does not go by a rate, so that any rate tells it
-unfoldable pub refusal_in : Columns → ℕ
-refusal_in c = (gathered_answer c 0).refusal
+unfoldable pub refusal_in : Columns → Result (Unit {0}) Refusal
+refusal_in c = passing (gathered_answer c 0)

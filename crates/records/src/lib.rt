@@ -2,11 +2,11 @@
 #![tactic(auto)]
 
 ghost use Rattle.std.specs.Prelude.{◌≡◌};
+ghost use Rattle.units.specs.Refusals.{result_by};
 ghost use Rattle.records.specs.Records.{records_refusal, records_answer};
 ghost use Rattle.records.specs.Inner.{none, next, gathered, refusal_in, gathered_answer};
 
-use bands::Factored;
-use units::limits;
+use units::{Refusal, limits};
 
 // What stands for any number of records above 16.
 const TOO_MANY: usize = limits::BANDS + 1;
@@ -26,41 +26,38 @@ struct Columns {
     count: usize,
 }
 
-// 0, or 5 for bands against the rule.
-pub fn check_bands(bands: &[Band]) -> u8
-    ensures { result ≡ records_refusal bands.now }
+// 5 for bands against the rule.
+pub fn check_bands(bands: &[Band]) -> Result<(), Refusal>
+    ensures { result ≡ result_by (records_refusal bands.now) tt }
 {
     check_columns(columns_of(bands))
 }
 
-// The factor of the first record whose threshold is at most the rate.
-pub fn factor_of(bands: &[Band], rate: u8) -> Factored
+// The factor of the first record whose threshold is at most the rate; or 5 or 4.
+pub fn factor_of(bands: &[Band], rate: u8) -> Result<i64, Refusal>
     ensures { result ≡ records_answer bands.now rate }
 {
     factor_in(columns_of(bands), rate)
 }
 
 // Whether bands fit does not go by a rate, so that any rate tells it.
-fn check_columns(columns: Columns) -> u8
+#[tactic(auto, unfolding(crate::specs::Inner::refusal_in))]
+fn check_columns(columns: Columns) -> Result<(), Refusal>
     ensures { result ≡ refusal_in columns }
 {
-    let factored = factor_in(columns, 0);
-    factored.refusal
+    factor_in(columns, 0)?;
+    Ok(())
 }
 
-fn factor_in(columns: Columns, rate: u8) -> Factored
+#[tactic(auto, unfolding(crate::specs::Inner::gathered_answer))]
+fn factor_in(columns: Columns, rate: u8) -> Result<i64, Refusal>
     ensures { result ≡ gathered_answer columns rate }
 {
     let n = columns.count;
     if limits::BANDS < n {
-        return Factored {
-            refusal: units::refusals::BAD_BANDS,
-            factor: 0,
-        };
+        return Err(Refusal::BadBands);
     }
-    let thresholds = columns.thresholds;
-    let factors = columns.factors;
-    bands::factor(&thresholds[..n], &factors[..n], rate)
+    bands::factor(&columns.thresholds[..n], &columns.factors[..n], rate)
 }
 
 // The one pass over a slice of records.
@@ -68,14 +65,13 @@ fn columns_of(bands: &[Band]) -> Columns
     ensures { result ≡ gathered none bands.now }
 {
     let mut columns = none();
-    let mut i = 0;
-    while i < bands.len() {
-        columns = next(columns, bands[i]);
-        i += 1;
+    for band in bands {
+        columns = next(columns, *band);
     }
     columns
 }
 
+#[tactic(auto, unfolding(crate::specs::Inner::none))]
 fn none() -> Columns
     ensures { result ≡ none }
 {
@@ -87,6 +83,7 @@ fn none() -> Columns
 }
 
 // The columns with one record more.
+#[tactic(auto, unfolding(crate::specs::Inner::next))]
 fn next(columns: Columns, band: Band) -> Columns
     ensures { result ≡ next columns band }
 {
@@ -94,19 +91,17 @@ fn next(columns: Columns, band: Band) -> Columns
     let mut thresholds = columns.thresholds;
     let mut factors = columns.factors;
     if at < limits::BANDS {
-        let threshold = band.threshold;
-        let factor = band.factor;
-        thresholds[at] = threshold;
-        factors[at] = factor;
+        thresholds[at] = band.threshold;
+        factors[at] = band.factor;
         return Columns {
-            thresholds: thresholds,
-            factors: factors,
+            thresholds,
+            factors,
             count: at + 1,
         };
     }
     Columns {
-        thresholds: thresholds,
-        factors: factors,
+        thresholds,
+        factors,
         count: TOO_MANY,
     }
 }

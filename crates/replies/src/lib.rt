@@ -1,7 +1,7 @@
 // The program `desk` between its input and its output: bytes in, chunk after chunk; a question that ends is answered.
 #![tactic(auto)]
 
-ghost use Rattle.std.specs.Prelude.{◌≤◌, min, ◌≡◌, length};
+ghost use Rattle.std.specs.Prelude.{◌≤◌, ◌≡◌, length};
 ghost use Rattle.text.specs.Text.{put};
 ghost use Rattle.question.specs.Inner.{room};
 ghost use Rattle.replies.specs.Inner.{reply_of, tell_text, reached_text, replied_to, runs_fit_in, unreplied};
@@ -21,6 +21,7 @@ pub struct Replied {
 }
 
 // Takes the bytes up to the end of a question and answers it, or takes all of them.
+#[tactic(auto, unfolding(crate::specs::Inner::replied_of, crate::specs::Inner::replied_run, crate::specs::Inner::replied_out))]
 pub fn feed(state: State, chunk: &[u8], numbers: &mut [i64], out: &mut [u8]) -> Replied
     ensures answer { result ≡ replied_of state chunk.now numbers.old out.old }
     ensures run { numbers.new ≡ replied_run state chunk.now numbers.old out.old }
@@ -35,6 +36,7 @@ pub fn feed(state: State, chunk: &[u8], numbers: &mut [i64], out: &mut [u8]) -> 
 }
 
 // The input's end: the question that is open is answered.
+#[tactic(auto, unfolding(crate::specs::Inner::last_replied, crate::specs::Inner::last_replied_run, crate::specs::Inner::last_replied_out))]
 pub fn finish(state: State, numbers: &mut [i64], out: &mut [u8]) -> Replied
     ensures answer { result ≡ last_replied state numbers.old out.old }
     ensures run { numbers.new ≡ last_replied_run state numbers.old out.old }
@@ -48,6 +50,7 @@ pub fn finish(state: State, numbers: &mut [i64], out: &mut [u8]) -> Replied
     replied_to(reached, numbers, out)
 }
 
+#[tactic(auto, unfolding(crate::specs::Inner::runs_fit_in))]
 fn fits(numbers: usize, out: usize) -> bool
     ensures { result ≡ runs_fit_in numbers out }
 {
@@ -66,24 +69,24 @@ fn unreplied(state: State) -> Replied
 }
 
 // Answers the question where one has ended, and goes on from what was reached.
+#[tactic(auto, unfolding(crate::specs::Inner::replied_to, crate::specs::Inner::reached_text))]
 fn replied_to(reached: Reached, numbers: &[i64], out: &mut [u8]) -> Replied
     requires { room ≤ length out.old }
     ensures answer { result ≡ replied_to reached numbers.now }
     ensures text { out.new ≡ put out.old 0 (reached_text reached numbers.now) }
     ensures within { result.written ≤ length out.old }
 {
-    let asked = reached.asked;
-    let next = reached.state;
-    let written = tell(reached.ended, asked, numbers, out);
+    let written = tell(reached.ended, reached.asked, numbers, out);
     Replied {
         refusal: 0,
-        state: next,
+        state: reached.state,
         taken: reached.taken,
         written,
     }
 }
 
 // The reply where a question has ended, else nothing.
+#[tactic(auto, using(text::proofs::Places::put_nothing), unfolding(crate::specs::Inner::tell_text))]
 fn tell(ended: bool, asked: Asked, numbers: &[i64], out: &mut [u8]) -> usize
     requires { room ≤ length out.old }
     ensures place { result ≡ length (tell_text ended asked numbers.now) }
@@ -103,20 +106,14 @@ fn put_reply(asked: Asked, numbers: &[i64], out: &mut [u8]) -> usize
     ensures text { out.new ≡ put out.old 0 (reply_of asked numbers.now) }
     ensures short { result ≤ length out.old }
 {
-    let count = least(asked.count, numbers.len());
-    let said = question::reply(
+    let count = asked.count.min(numbers.len());
+    question::reply(
         asked.word,
         asked.line,
         asked.fault,
         asked.place,
         &numbers[..count],
         out,
-    );
-    said.written
-}
-
-fn least(n: usize, most: usize) -> usize
-    ensures { result ≡ min n most }
-{
-    if most < n { most } else { n }
+    )
+    .written
 }

@@ -1,8 +1,9 @@
 -- The questions about one rule: each is the answer of the library that has it. Their numbers are given as single ones, in order.
-use Rattle.std.specs.Prelude.{ℕ, ◌/◌, ◌%◌, Bool, ◌&&◌, List, [], ◌∷◌, eqb, ℤ, pos, length, take, drop}
+use Rattle.std.specs.Prelude.{ℕ, ◌/◌, ◌%◌, Bool, ◌&&◌, List, [], ◌∷◌, Result, Ok, Err, eqb, ℤ, pos, length, take, drop}
 use Rattle.whole.specs.Choice.{pick, in_order}
 use Rattle.whole.specs.Whole.{up}
-use Rattle.units.specs.Refusals.{wrong_length, bad_bands, not_finite}
+use Rattle.units.specs.Refusals.{wrong_length, bad_bands, not_finite, paper_number, refused_as}
+use Rattle.units.specs.declared.refusal.Refusal.{Refusal}
 use Rattle.units.specs.Limits.{is_pattern}
 use Rattle.units.specs.Units.{kilowatts, megawatts, millihertz, dollars, in_kilowatts}
 use Rattle.curve.specs.Curve.{curve_at}
@@ -12,7 +13,6 @@ use Rattle.rate.specs.declared.Rated.{Rated}
 use Rattle.reached.specs.Reached.{hour_reached, no_verdict}
 use Rattle.reached.specs.declared.Verdict.{Verdict}
 use Rattle.bands.specs.Bands.{bands_fit, factor_answer}
-use Rattle.bands.specs.declared.Factored.{Factored}
 use Rattle.fees.specs.Fees.{fee_answer, quality_answer, energy_answer}
 use Rattle.fees.specs.declared.Charged.{Charged}
 use Rattle.loss.specs.Loss.{loss_answer}
@@ -22,13 +22,18 @@ use Rattle.words.specs.Replies.{Reply, reply}
 use Rattle.words.specs.declared.Rule.{Rule}
 use Rattle.words.specs.declared.Rule.TheVariants.{Kilowatts, Curve, Score, Rate, Reached, Bands, Factor, Fee, Quality, Energy, Loss, Pair}
 
+-- a library's answer: 0 and its fields; or the number of its refusal, and zeros in their place
+abbrev pub result_reply : {A : Type 0} → List ℤ → (A → List ℤ) → Result A Refusal → Reply
+result_reply zeros fields (Ok a) = reply 0 (fields a)
+result_reply zeros fields (Err r) = reply (paper_number r) zeros
+
 -- MEGAWATTS: refusal, kilowatts
 unfoldable pub kilowatts_reply : List ℤ → Reply
-kilowatts_reply n = let a = in_kilowatts (megawatts (number n 0)) in reply a.refusal (a.power.0 ∷ [])
+kilowatts_reply n = result_reply (pos 0 ∷ []) (λ p. p.0 ∷ []) (in_kilowatts (megawatts (number n 0)))
 
 -- FREQUENCY REFERENCE (document 02, #107): refusal, upper, lower
 unfoldable pub curve_reply : List ℤ → Reply
-curve_reply n = let a = curve_at (millihertz (number n 0)) (millihertz (number n 1)) in reply a.refusal (a.upper ∷ a.lower ∷ [])
+curve_reply n = result_reply (pos 0 ∷ pos 0 ∷ []) (λ b. b.upper ∷ b.lower ∷ []) (curve_at (millihertz (number n 0)) (millihertz (number n 1)))
 
 -- POWER TRANSFER CAPACITY FREQUENCY REFERENCE (document 02, #107): refusal, score
 unfoldable pub score_reply : List ℤ → Reply
@@ -66,13 +71,13 @@ unfoldable pub bands_reply : List ℤ → Reply
 bands_reply n = reply (in_order ((are_pairs n, wrong_length) ∷ (bands_fit (column n 0 (pairs n)) (column n 1 (pairs n)), bad_bands) ∷ [])) []
 
 -- the factor of a rate by pairs
-unfoldable pub factor_in : List ℤ → ℕ → Factored
+unfoldable pub factor_in : List ℤ → ℕ → Result ℤ Refusal
 factor_in n rate =
-    pick (are_pairs n) (factor_answer (column n 0 (pairs n)) (column n 1 (pairs n)) rate) (record { refusal = wrong_length; factor = pos 0 })
+    pick (are_pairs n) (factor_answer (column n 0 (pairs n)) (column n 1 (pairs n)) rate) (refused_as wrong_length)
 
 -- RATE, pairs THRESHOLD FACTOR: refusal, factor
 unfoldable pub factor_reply : List ℤ → List ℤ → Reply
-factor_reply n t = let a = factor_in t (byte_of (number n 0)) in reply a.refusal (a.factor ∷ [])
+factor_reply n t = result_reply (pos 0 ∷ []) (λ f. f ∷ []) (factor_in t (byte_of (number n 0)))
 
 -- a fee's answer: refusal, dollars
 abbrev pub charge_reply : Charged → Reply
@@ -93,12 +98,11 @@ energy_reply n t = charge_reply (energy_answer t (take 4 (drop 2 n)) (number n 0
 -- CHARGED DISCHARGED VOLTAGE COST: refusal, basic, excess, total
 unfoldable pub loss_reply : List ℤ → Reply
 loss_reply n =
-    let a = loss_answer (number n 0) (number n 1) (number n 2) (number n 3) in
-    reply a.refusal (a.basic.0 ∷ a.excess.0 ∷ a.total.0 ∷ [])
+    result_reply (pos 0 ∷ pos 0 ∷ pos 0 ∷ []) (λ l. l.basic.0 ∷ l.excess.0 ∷ l.total.0 ∷ []) (loss_answer (number n 0) (number n 1) (number n 2) (number n 3))
 
 -- FREQUENCY-BITS POWER-BITS: refusal, millihertz, kilowatts (document 02, #105). A number that is no pattern of 32 bits is no single: 17
 abbrev pub pair_bits_reply : ℕ → ℕ → Reply
-pair_bits_reply f p = let a = rounded_bits f p in reply a.refusal (a.frequency.0 ∷ a.power.0 ∷ [])
+pair_bits_reply f p = result_reply (pos 0 ∷ pos 0 ∷ []) (λ r. r.frequency.0 ∷ r.power.0 ∷ []) (rounded_bits f p)
 
 unfoldable pub pair_reply : List ℤ → Reply
 pair_reply n =

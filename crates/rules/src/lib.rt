@@ -5,6 +5,7 @@
 ghost use Rattle.std.specs.Prelude.{◌≤◌, ◌≡◌, true, length};
 ghost use Rattle.units.specs.Limits.{seconds_of_hour};
 ghost use Rattle.bands.specs.Bands.{factor_answer};
+ghost use Rattle.pair.specs.Pair.{rounded_bits};
 ghost use Rattle.words.specs.Inner.{boxed};
 ghost use Rattle.numbers.specs.Numbers.{column, scores_in};
 ghost use Rattle.reached.specs.Reached.{hour_reached};
@@ -13,10 +14,9 @@ ghost use Rattle.rules.specs.Rules.{reached_reply, verdict_reply};
 ghost use Rattle.rules.specs.Inner.{few};
 ghost use Rattle.rules.specs.Rules.{factor_reply, charge_reply, fee_reply, quality_reply, energy_reply, loss_reply, pair_bits_reply, pair_reply, rule_reply};
 
-use bands::Factored;
 use fees::Charged;
-use pair::Logged;
-use units::{Dollars, Kilowatts, Megawatts, Millihertz, limits, refusals};
+use pair::Rounded;
+use units::{Dollars, Kilowatts, Megawatts, Millihertz, Refusal, limits, refusals};
 use words::{Few, Rule};
 
 // THE FAMILY: the answer to a question about one rule, by its single numbers, by its earlier scores and whether they
@@ -40,12 +40,14 @@ pub fn answer(rule: Rule, head: [i64; 12], counted: bool, earlier: &[i64], tail:
     }
 }
 
+#[tactic(auto, unfolding(crate::specs::Rules::kilowatts_reply))]
 fn kilowatts(head: [i64; 12]) -> Few
     ensures { result ≡ boxed (kilowatts_reply head) }
 {
-    let converted = units::to_kilowatts(Megawatts(head[0]));
-    let power = converted.power;
-    few(converted.refusal, 1, power.0, 0, 0, 0)
+    match units::to_kilowatts(Megawatts(head[0])) {
+        Ok(power) => few(0, 1, power.0, 0, 0, 0),
+        Err(refusal) => few(refusal.number(), 1, 0, 0, 0, 0),
+    }
 }
 
 // An answer of at most four fields: the refusal's number, the fields, zeros after them.
@@ -59,11 +61,14 @@ fn few(refusal: u8, count: usize, a: i64, b: i64, c: i64, d: i64) -> Few
     }
 }
 
+#[tactic(auto, unfolding(crate::specs::Rules::curve_reply))]
 fn curve(head: [i64; 12]) -> Few
     ensures { result ≡ boxed (curve_reply head) }
 {
-    let bounds = curve::curve(Millihertz(head[0]), Millihertz(head[1]));
-    few(bounds.refusal, 2, bounds.upper, bounds.lower, 0, 0)
+    match curve::curve(Millihertz(head[0]), Millihertz(head[1])) {
+        Ok(bounds) => few(0, 2, bounds.upper, bounds.lower, 0, 0),
+        Err(refusal) => few(refusal.number(), 2, 0, 0, 0, 0),
+    }
 }
 
 fn score(head: [i64; 12]) -> Few
@@ -132,33 +137,29 @@ fn verdict(threshold: u8, earlier: &[i64], tail: &[i64]) -> Few
 fn bands(tail: &[i64]) -> Few
     ensures { result ≡ boxed (bands_reply tail.now) }
 {
-    let factored = looked_up(tail, 0);
-    few(factored.refusal, 0, 0, 0, 0, 0)
+    match looked_up(tail, 0) {
+        Ok(_) => few(0, 0, 0, 0, 0, 0),
+        Err(refusal) => few(refusal.number(), 0, 0, 0, 0, 0),
+    }
 }
 
 // The same by all pairs that there are; a number that has no other is refused with 1, and more than 16 pairs with 5,
 // whatever they say.
-fn looked_up(numbers: &[i64], rate: u8) -> Factored
+fn looked_up(numbers: &[i64], rate: u8) -> Result<i64, Refusal>
     ensures { result ≡ factor_in numbers.now rate }
 {
     let n = numbers.len() / 2;
     if numbers.len() % 2 != 0 {
-        return Factored {
-            refusal: refusals::WRONG_LENGTH,
-            factor: 0,
-        };
+        return Err(Refusal::WrongLength);
     }
     if 100 < n {
-        return Factored {
-            refusal: refusals::BAD_BANDS,
-            factor: 0,
-        };
+        return Err(Refusal::BadBands);
     }
     found(numbers, n, rate)
 }
 
 // The factor of a rate by n pairs.
-fn found(numbers: &[i64], n: usize, rate: u8) -> Factored
+fn found(numbers: &[i64], n: usize, rate: u8) -> Result<i64, Refusal>
     requires { n ≤ 100 }
     ensures { result ≡ factor_answer (column numbers.now 0 n) (column numbers.now 1 n) rate }
 {
@@ -169,12 +170,14 @@ fn found(numbers: &[i64], n: usize, rate: u8) -> Factored
     bands::factor(&thresholds[..n], &factors[..n], rate)
 }
 
+#[tactic(auto, unfolding(crate::specs::Rules::factor_reply))]
 fn factor(head: [i64; 12], tail: &[i64]) -> Few
     ensures { result ≡ boxed (factor_reply head tail.now) }
 {
-    let rate = numbers::byte_of(head[0]);
-    let factored = looked_up(tail, rate);
-    few(factored.refusal, 1, factored.factor, 0, 0, 0)
+    match looked_up(tail, numbers::byte_of(head[0])) {
+        Ok(factor) => few(0, 1, factor, 0, 0, 0),
+        Err(refusal) => few(refusal.number(), 1, 0, 0, 0, 0),
+    }
 }
 
 fn fee(head: [i64; 12]) -> Few
@@ -205,14 +208,14 @@ fn energy(head: [i64; 12], tail: &[i64]) -> Few
     charge(fees::energy_fee(tail, &head[2..6], discharge, charging))
 }
 
+#[tactic(auto, unfolding(crate::specs::Rules::loss_reply))]
 fn loss(head: [i64; 12]) -> Few
     ensures { result ≡ boxed (loss_reply head) }
 {
-    let loss = loss::loss_fee(head[0], head[1], head[2], head[3]);
-    let basic = loss.basic;
-    let excess = loss.excess;
-    let total = loss.total;
-    few(loss.refusal, 3, basic.0, excess.0, total.0, 0)
+    match loss::loss_fee(head[0], head[1], head[2], head[3]) {
+        Ok(loss) => few(0, 3, loss.basic.0, loss.excess.0, loss.total.0, 0),
+        Err(refusal) => few(refusal.number(), 3, 0, 0, 0, 0),
+    }
 }
 
 // The bits of a frequency and of a power. A number that is no pattern of 32 bits is no single.
@@ -231,12 +234,15 @@ fn pair(head: [i64; 12]) -> Few
 fn converted(frequency: u32, power: u32) -> Few
     ensures { result ≡ boxed (pair_bits_reply frequency power) }
 {
-    let got = pair::from_bits(frequency, power);
-    let Logged::Finite(pair) = got else {
-        return few(refusals::NOT_FINITE, 2, 0, 0, 0, 0);
-    };
-    let rounded = pair::convert(pair);
-    let millihertz = rounded.frequency;
-    let kilowatts = rounded.power;
-    few(rounded.refusal, 2, millihertz.0, kilowatts.0, 0, 0)
+    match rounded(frequency, power) {
+        Ok(pair) => few(0, 2, pair.frequency.0, pair.power.0, 0, 0),
+        Err(refusal) => few(refusal.number(), 2, 0, 0, 0, 0),
+    }
+}
+
+#[tactic(auto, using(pair::proofs::Pairs::by_bits))]
+fn rounded(frequency: u32, power: u32) -> Result<Rounded, Refusal>
+    ensures { result ≡ rounded_bits frequency power }
+{
+    pair::convert(pair::from_bits(frequency, power)?)
 }

@@ -14,6 +14,7 @@ ghost use Rattle.score.specs.Score.{percent_output, score_of, second_refusal, ju
 ghost use Rattle.score.specs.Inner.{most_output, least_by_inverse, inverse_of, award_refusal, second_fits, fit_at, seconds_refusal};
 ghost use Rattle.score.specs.Run.{run_refusal, run_scores, run_left};
 
+use curve::Bounds;
 use units::{Kilowatts, Millihertz, limits, refusals};
 
 const LEAST_POWER: i64 = -limits::POWER;
@@ -35,6 +36,7 @@ pub struct Scored {
 }
 
 // The score of a second's power by the frequency of the second before, the curve's corners around a reference.
+#[tactic(auto, unfolding(crate::specs::Score::second_score))]
 pub fn second_score(
     power: Kilowatts,
     transfer: Kilowatts,
@@ -44,18 +46,13 @@ pub fn second_score(
 ) -> Scored
     ensures { result ≡ second_score power transfer capacity frequency reference }
 {
-    let k = refusal(power, transfer, capacity, frequency, reference);
-    if k == 0 {
-        let s = judged_by(power, transfer, capacity, frequency, reference);
-        return Scored {
-            refusal: 0,
-            score: s,
-        };
-    }
-    Scored {
-        refusal: k,
-        score: 0,
-    }
+    let refusal = refusal(power, transfer, capacity, frequency, reference);
+    let score = if refusal == 0 {
+        judged_by(power, transfer, capacity, frequency, reference)
+    } else {
+        0
+    };
+    Scored { refusal, score }
 }
 
 // The scores of a run of seconds, each by its power, its planned transfer and the frequency of the second before, all
@@ -86,6 +83,7 @@ pub fn run_scores(
 }
 
 // 2, 19, 10, 4; 0 lets the second through.
+#[tactic(auto, unfolding(crate::specs::Score::second_refusal, crate::specs::Inner::award_refusal))]
 fn refusal(
     power: Kilowatts,
     transfer: Kilowatts,
@@ -95,14 +93,11 @@ fn refusal(
 ) -> u8
     ensures { result ≡ second_refusal power transfer capacity frequency reference }
 {
-    let p = power.0;
-    let t = transfer.0;
-    let f = frequency.0;
-    let reading = whole::within(p, LEAST_POWER, limits::POWER)
-        & whole::within(f, limits::LEAST_FREQUENCY, limits::MOST_FREQUENCY);
+    let reading = whole::within(power.0, LEAST_POWER, limits::POWER)
+        & whole::within(frequency.0, limits::LEAST_FREQUENCY, limits::MOST_FREQUENCY);
     let readings = whole::unless(reading, refusals::BAD_READING, 0);
     let transfers = whole::unless(
-        whole::within(t, LEAST_TRANSFER, limits::TRANSFER),
+        whole::within(transfer.0, LEAST_TRANSFER, limits::TRANSFER),
         refusals::BAD_TRANSFER,
         readings,
     );
@@ -110,6 +105,7 @@ fn refusal(
 }
 
 // 2, 19; then what the rest says.
+#[tactic(auto, unfolding(crate::specs::Inner::award_refusal))]
 fn award_refusal(capacity: Kilowatts, reference: Millihertz, rest: u8) -> u8
     ensures { result ≡ award_refusal capacity reference rest }
 {
@@ -132,10 +128,16 @@ fn judged_by(
     requires { second_refusal power transfer capacity frequency reference ≡ 0 }
     ensures { result ≡ judged_by power transfer capacity frequency reference }
 {
-    let bounds = curve::curve(frequency, reference);
-    let upper = bounds.upper;
-    let lower = bounds.lower;
-    by_bounds(power, transfer, capacity, inverse(capacity), upper, lower)
+    let told = curve::curve(frequency, reference);
+    let bounds = told.unwrap_or(Bounds { upper: 0, lower: 0 });
+    by_bounds(
+        power,
+        transfer,
+        capacity,
+        inverse(capacity),
+        bounds.upper,
+        bounds.lower,
+    )
 }
 
 fn by_bounds(
@@ -156,15 +158,13 @@ fn by_bounds(
 }
 
 // The nearest whole percent of (power - transfer) over capacity.
+#[tactic(auto, unfolding(crate::specs::Score::percent_output))]
 fn percent_output(power: Kilowatts, transfer: Kilowatts, capacity: Kilowatts, inverse: u64) -> i64
     requires within { Within most_power power.0 × (Within most_transfer transfer.0 × Between (pos 1) (pos most_capacity) capacity.0) }
     requires inverse_value { inverse ≡ inverse_of (nat_abs capacity.0) }
     ensures { result ≡ percent_output power.0 transfer.0 capacity.0 }
 {
-    let p = power.0;
-    let t = transfer.0;
-    let c = capacity.0;
-    nearest_percent(p - t, c, inverse)
+    nearest_percent(power.0 - transfer.0, capacity.0, inverse)
 }
 
 // By a division where the product with the inverse may not fit 64 bits.
@@ -176,11 +176,8 @@ fn nearest_percent(reach: i64, capacity: i64, inverse: u64) -> i64
     if capacity < BY_INVERSE {
         return whole::nearest(reach * 100, capacity);
     }
-    let size = percents(whole::size(reach), whole::size(capacity), inverse) as i64;
-    if reach < 0 {
-        return -size;
-    }
-    size
+    let size = percents(reach.unsigned_abs(), capacity.unsigned_abs(), inverse) as i64;
+    if reach < 0 { -size } else { size }
 }
 
 fn percents(reach: u64, capacity: u64, inverse: u64) -> u64
@@ -197,10 +194,11 @@ fn score_of(output: i64, upper: i64, lower: i64) -> u8
     requires { Within most_output output × (Within most_percent upper × (Within most_percent lower × (le_z lower upper ≡ true))) }
     ensures { result ≡ score_of output upper lower }
 {
-    less(farther(output - upper, lower - output))
+    less((output - upper).max(lower - output))
 }
 
-// 100 less the distance, and never below 0; a distance below 0 is none.
+// 100 less the distance, and never below 0; a distance below 0 is none. (By `clamp` a dReg hour took 1.27 times as
+// long.)
 fn less(distance: i64) -> u8
     ensures { result ≡ most_score - (up distance - down distance) }
 {
@@ -213,22 +211,17 @@ fn less(distance: i64) -> u8
     (MOST_SCORE - distance) as u8
 }
 
-fn farther(above: i64, below: i64) -> i64
-    ensures { result ≡ pick (lt_z above below) below above }
-{
-    if above < below { below } else { above }
-}
-
 // What a run of seconds multiplies by, so that it divides by the capacity once.
+#[tactic(auto, unfolding(crate::specs::Inner::inverse_of))]
 fn inverse(capacity: Kilowatts) -> u64
     requires { Between (pos 1) (pos most_capacity) capacity.0 }
     ensures { result ≡ inverse_of (nat_abs capacity.0) }
 {
-    let c = capacity.0;
-    SCALE / (2 * whole::size(c)) + 1
+    SCALE / (2 * capacity.0.unsigned_abs()) + 1
 }
 
 // 1, 2, 19, 10, 4; 0 lets the run through.
+#[tactic(auto, unfolding(crate::specs::Run::run_refusal, crate::specs::Inner::award_refusal))]
 fn run_refusal(
     powers: &[i64],
     frequencies: &[i64],
@@ -248,15 +241,17 @@ fn run_refusal(
 }
 
 // 10, 4. Seconds that all fit are looked at once.
+#[tactic(auto, using(crate::proofs::Run::fit_none, crate::proofs::Run::fit_which))]
 fn seconds_refusal(powers: &[i64], frequencies: &[i64], transfers: &[i64]) -> u8
     requires { (length frequencies.now ≡ length powers.now) × (length transfers.now ≡ length powers.now) }
     ensures { result ≡ seconds_refusal powers.now frequencies.now transfers.now }
 {
-    if !seconds_fit(powers, frequencies, transfers) {
+    if seconds_fit(powers, frequencies, transfers) {
+        0
+    } else {
         let planned = whole::all_within(transfers, LEAST_TRANSFER, limits::TRANSFER);
-        return whole::unless(planned, refusals::BAD_TRANSFER, refusals::BAD_READING);
+        whole::unless(planned, refusals::BAD_TRANSFER, refusals::BAD_READING)
     }
-    0
 }
 
 // Whether every second's transfer, power and frequency lies in its range.
@@ -264,19 +259,15 @@ fn seconds_fit(powers: &[i64], frequencies: &[i64], transfers: &[i64]) -> bool
     requires { (length frequencies.now ≡ length powers.now) × (length transfers.now ≡ length powers.now) }
     ensures { result ≡ all_to (length powers.now) (fit_at powers.now frequencies.now transfers.now) }
 {
-    let mut i = 0;
-    while i < powers.len() {
-        let p = powers[i];
-        let f = frequencies[i];
-        let t = transfers[i];
-        if !second_fits(p, f, t) {
+    for (i, power) in powers.iter().enumerate() {
+        if !second_fits(*power, frequencies[i], transfers[i]) {
             return false;
         }
-        i += 1;
     }
     true
 }
 
+#[tactic(auto, unfolding(crate::specs::Inner::second_fits))]
 fn second_fits(power: i64, frequency: i64, transfer: i64) -> bool
     ensures { result ≡ second_fits power frequency transfer }
 {
@@ -325,22 +316,16 @@ fn fill_by(
     requires scores_value { run_refusal powers.now frequencies.now transfers.now capacity reference (length scores.old) ≡ 0 }
     ensures { scores.new ≡ run_scores powers.now frequencies.now transfers.now capacity reference }
 {
-    let mut i = 0;
-    while i < powers.len() {
-        let power = powers[i];
-        let transfer = transfers[i];
-        let frequency = frequencies[i];
-        let s = judged_in(
+    for (i, score) in scores.iter_mut().enumerate() {
+        *score = judged_in(
             pairs,
-            Kilowatts(power),
-            Kilowatts(transfer),
+            Kilowatts(powers[i]),
+            Kilowatts(transfers[i]),
             capacity,
             inverse,
-            Millihertz(frequency),
+            Millihertz(frequencies[i]),
             reference,
         );
-        scores[i] = s;
-        i += 1;
     }
 }
 
@@ -370,8 +355,5 @@ fn past_first(frequency: Millihertz, reference: Millihertz) -> i64
     requires { CurveFits frequency reference }
     ensures { result ≡ past_first reference.0 frequency.0 }
 {
-    let f = frequency.0;
-    let around = reference.0;
-    let first = around - curve::REACH;
-    f - first
+    frequency.0 - (reference.0 - curve::REACH)
 }

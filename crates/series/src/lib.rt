@@ -44,18 +44,16 @@ fn ramp(head: [i64; 12], run: &mut [i64]) -> Ran
     ensures answers { result ≡ ran_of (ramp_reply head) }
     ensures leaves { run.new ≡ ran_left (ramp_reply head) run.old }
 {
-    let last = Kilowatts(head[0]);
-    let target = Kilowatts(head[1]);
-    let k = ramp::ramp(last, target, &mut run[..limits::QUARTER]);
-    if k != 0 {
-        return Ran {
-            refusal: k,
+    let (last, target) = (Kilowatts(head[0]), Kilowatts(head[1]));
+    match ramp::ramp(last, target, &mut run[..limits::QUARTER]) {
+        Ok(()) => Ran {
+            refusal: 0,
+            count: limits::QUARTER,
+        },
+        Err(refusal) => Ran {
+            refusal: refusal.number(),
             count: 0,
-        };
-    }
-    Ran {
-        refusal: 0,
-        count: limits::QUARTER,
+        },
     }
 }
 
@@ -75,10 +73,9 @@ fn scores(
 {
     let mut scores = [0u8; limits::SECONDS];
     let settled = hours::settle(hour, head, bands, counted, earlier, readings, &mut scores);
-    let k = settled.refusal;
-    if k != 0 {
+    if settled.refusal != 0 {
         return Ran {
-            refusal: k,
+            refusal: settled.refusal,
             count: 0,
         };
     }
@@ -94,16 +91,7 @@ fn widen(bytes: &[u8], run: &mut [i64])
     requires { length run.old ≡ length bytes.now }
     ensures { run.new ≡ map pos bytes.now }
 {
-    let mut i = 0;
-    while i < run.len() {
-        let n = wide(bytes[i]);
-        run[i] = n;
-        i += 1;
+    for (i, byte) in bytes.iter().enumerate() {
+        run[i] = i64::from(*byte);
     }
-}
-
-fn wide(b: u8) -> i64
-    ensures { result ≡ pos b }
-{
-    b as i64
 }

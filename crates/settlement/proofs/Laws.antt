@@ -5,31 +5,32 @@ use mathlib.Core.Path.{◌≡◌, refl, sym, ap}
 use mathlib.Core.Bool.{Bool, true, false, ◌&&◌}
 use mathlib.Core.List.{List, [], ◌∷◌}
 use native.Mathlib.Omega.{arith}
-use lib.Dec.{eqb, leb}
+use lib.Dec.{leb}
 use lib.IntN.{ℤ, pos, ◌+ℤ◌}
 use lib.ListN.{get_or}
 use mir.Syntax.{w64}
 use mir.Val.{SFits}
-use borrow.Author.Tests.{le-leb}
 use Rattle.whole.specs.Choice.{unless, or_else, in_order}
 use Rattle.whole.specs.Whole.{Within}
 use Rattle.whole.proofs.Choice.{both, and_both, by_test, all_passed, passed_all, in_order_then, kept_new}
 use Rattle.whole.proofs.Signed.{sum, within_fits}
 use Rattle.whole.proofs.Sums.{in_within}
 use Rattle.units.specs.Limits.{is_capacity, is_price, is_factor, most_energy_paid, is_energy_paid, most_score}
-use Rattle.units.specs.Refusals.{bad_reading}
+use Rattle.std.specs.Prelude.{Result, is_ok}
+use Rattle.units.specs.Refusals.{bad_reading, result_by}
 use Rattle.units.specs.declared.Dollars.{Dollars}
 use Rattle.bands.specs.Bands.{bands_fit, bands_refusal, first_place, factor_answer}
-use Rattle.bands.specs.declared.Factored.{Factored}
+use Rattle.std.specs.Result.{result_unwrap_or}
+use Rattle.units.specs.declared.refusal.Refusal.{Refusal}
 use Rattle.bands.proofs.Laws.{lookup_passes, factor_granted}
 use Rattle.fees.specs.Fees.{fee, fee_answer, quality_part, quality_answer, charge_of, most_quality}
 use Rattle.fees.specs.declared.Charged.{Charged}
 use Rattle.fees.proofs.Laws.{fee_granted, fees_fit_lem, quality_granted, quality_within}
-use Rattle.settlement.specs.Settlement.{award_tests, at_tests, at_refusal, refused_hour, earned_by, settled_of, settled_at, earned_at}
+use Rattle.settlement.specs.Settlement.{award_tests, at_tests, at_refusal, earned_by, settled_of, settled_at, earned_at}
 use Rattle.settlement.specs.declared.Terms.{Terms}
 
 -- the bands' call refuses just what does not fit
-pub bands_test : (thresholds factors : List ℤ) → eqb (bands_refusal thresholds factors) 0 ≡ bands_fit thresholds factors
+pub bands_test : (thresholds factors : List ℤ) → is_ok (result_by (bands_refusal thresholds factors) (tt {0})) ≡ bands_fit thresholds factors
 unfolding bands_refusal
 bands_test ts fs = by_test (bands_fit ts fs) (λ (t : bands_fit ts fs ≡ true). rw t) (λ (t : bands_fit ts fs ≡ false). rw t)
 
@@ -78,9 +79,9 @@ earned_granted factor f = kept_new _ _ (at_none f)
 -- ---- the parts, each the paper's formula
 
 pub factor_plain : (thresholds factors : List ℤ) (rate : ℕ) → bands_fit thresholds factors ≡ true → rate ≤ most_score
-    → (factor_answer thresholds factors rate).factor ≡ get_or factors (first_place thresholds (pos rate)) (pos 0)
+    → result_unwrap_or (factor_answer thresholds factors rate) (pos 0) ≡ get_or factors (first_place thresholds (pos rate)) (pos 0)
 unfolding bands_refusal
-factor_plain ts fs rate e l = ap (λ (x : Factored). x.factor) (factor_granted ts fs rate (lookup_passes ts fs rate (rw e) l))
+factor_plain ts fs rate e l = ap (λ (x : Result ℤ Refusal). result_unwrap_or x (pos 0)) (factor_granted ts fs rate (lookup_passes ts fs rate (rw e) l))
 
 module _ (terms : Terms) (fits : is_capacity terms.capacity.0 ≡ true) where
   pub fee_plain : (price : ℤ) → is_price price ≡ true → (fee_answer price terms.capacity).dollars.0 ≡ fee price terms.capacity.0

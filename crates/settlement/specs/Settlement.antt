@@ -6,6 +6,7 @@ use Rattle.units.specs.Refusals.{wrong_length, bad_capacity, bad_reference, bad_
 use Rattle.units.specs.Limits.{is_capacity, is_price, is_energy_paid, is_factor, most_score}
 use Rattle.units.specs.Units.{dollars}
 use Rattle.units.specs.declared.Dollars.{Dollars}
+use Rattle.std.specs.Result.{result_unwrap_or}
 use Rattle.bands.specs.Bands.{bands_fit, factor_answer}
 use Rattle.fees.specs.Fees.{fee_answer, quality_answer}
 use Rattle.settlement.specs.declared.Terms.{Terms}
@@ -68,7 +69,7 @@ earned_by terms factor energy rate =
 
 -- and by its bands, in which the rate finds the factor
 unfoldable pub settled_of : Terms → List ℤ → List ℤ → Dollars → ℕ → Settlement
-settled_of terms thresholds factors energy rate = earned_by terms (factor_answer thresholds factors rate).factor energy rate
+settled_of terms thresholds factors energy rate = earned_by terms (result_unwrap_or (factor_answer thresholds factors rate) (pos 0)) energy rate
 
 -- ---- with the refusals of what is handed in. "Order. Hour, and calls for a part of its work": 2, 3, 5, 4
 

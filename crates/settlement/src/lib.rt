@@ -2,16 +2,11 @@
 // amount.
 #![tactic(auto)]
 
-ghost use Rattle.std.specs.Prelude.{◌≡◌, true, ◌&&◌, ◌+ℤ◌};
-ghost use Rattle.std.specs.Int.{w64};
-ghost use Rattle.std.proofs.Common.{SFits};
+ghost use Rattle.std.specs.Prelude.{◌≡◌, true, ◌&&◌};
 ghost use Rattle.whole.specs.Choice.{in_order};
 ghost use Rattle.whole.specs.Whole.{Within};
 ghost use Rattle.units.specs.Limits.{is_capacity, is_price, is_energy_paid, most_energy_paid};
-ghost use Rattle.units.specs.Units.{dollars};
-ghost use Rattle.bands.specs.Bands.{factor_answer};
-ghost use Rattle.fees.specs.Fees.{fee_answer, quality_answer};
-ghost use Rattle.settlement.specs.Settlement.{award_tests, terms_refusal, granted_hour, refused_hour, earned_by, at_refusal, settled_at, earned_at};
+ghost use Rattle.settlement.specs.Settlement.{award_tests, terms_refusal, refused_hour, earned_by, at_refusal, settled_at, earned_at};
 
 use units::{Dollars, Kilowatts, limits, refusals};
 
@@ -48,12 +43,13 @@ pub fn settled_at(
 ) -> Settlement
     ensures { result ≡ settled_at terms thresholds.now factors.now energy rate }
 {
-    let banded = bands::check(thresholds, factors) == 0;
+    let banded = bands::check(thresholds, factors).is_ok();
     let k = at_refusal(terms, banded, energy, rate);
     if k != 0 {
         return refused_hour(k);
     }
-    earned(terms, factor_of(thresholds, factors, rate), energy, rate)
+    let factor = bands::factor(thresholds, factors, rate).unwrap_or(0);
+    earned(terms, factor, energy, rate)
 }
 
 // The same by a factor that no rate has to find.
@@ -69,6 +65,7 @@ pub fn earned_at(terms: Terms, factor: i64, energy: Dollars, rate: u8) -> Settle
 }
 
 // A refused hour: its number, and zeros.
+#[tactic(auto, unfolding(crate::specs::Settlement::refused_hour))]
 pub fn refused_hour(number: u8) -> Settlement
     ensures { result ≡ refused_hour number }
 {
@@ -98,7 +95,7 @@ pub fn terms_refusal(
 ) -> u8
     ensures { result ≡ terms_refusal lengths terms referred thresholds.now factors.now priced planned }
 {
-    let banded = bands::check(thresholds, factors) == 0;
+    let banded = bands::check(thresholds, factors).is_ok();
     award_refusal(lengths, terms, referred, priced, banded, planned)
 }
 
@@ -134,24 +131,20 @@ fn award_refusal(
 fn prices_fit(terms: Terms) -> bool
     ensures { result ≡ (is_price terms.clearing && is_price terms.performance) }
 {
-    let clearing = terms.clearing;
-    let performance = terms.performance;
-    whole::within(clearing, 0, limits::PRICE) & whole::within(performance, 0, limits::PRICE)
+    whole::within(terms.clearing, 0, limits::PRICE)
+        & whole::within(terms.performance, 0, limits::PRICE)
 }
 
 fn capacity_fits(terms: Terms) -> bool
     ensures { result ≡ is_capacity terms.capacity.0 }
 {
-    let capacity = terms.capacity;
-    let size = capacity.0;
-    whole::within(size, 1, limits::CAPACITY)
+    whole::within(terms.capacity.0, 1, limits::CAPACITY)
 }
 
 fn energy_fits(energy: Dollars) -> bool
     ensures { result ≡ is_energy_paid energy.0 }
 {
-    let paid = energy.0;
-    whole::within(paid, LEAST_ENERGY_PAID, limits::ENERGY_PAID)
+    whole::within(energy.0, LEAST_ENERGY_PAID, limits::ENERGY_PAID)
 }
 
 // The fees, the quality part and the amount.
@@ -159,71 +152,17 @@ fn earned(terms: Terms, factor: i64, energy: Dollars, rate: u8) -> Settlement
     requires { Within most_energy_paid energy.0 }
     ensures { result ≡ earned_by terms factor energy rate }
 {
-    let capacity = fee_of(terms.clearing, terms.capacity);
-    let performance = fee_of(terms.performance, terms.capacity);
-    let quality = quality_of(capacity, performance, factor);
-    granted_hour(
+    let capacity = fees::fee(terms.clearing, terms.capacity).dollars;
+    let performance = fees::fee(terms.performance, terms.capacity).dollars;
+    let quality = fees::quality_part(capacity, performance, factor).dollars;
+    Settlement {
+        refusal: 0,
         rate,
         factor,
         capacity,
         performance,
         quality,
         energy,
-        plus(quality, energy),
-    )
-}
-
-fn factor_of(thresholds: &[i64], factors: &[i64], rate: u8) -> i64
-    ensures { result ≡ (factor_answer thresholds.now factors.now rate).factor }
-{
-    let factored = bands::factor(thresholds, factors, rate);
-    let factor = factored.factor;
-    factor
-}
-
-fn fee_of(price: i64, capacity: Kilowatts) -> Dollars
-    ensures { result ≡ (fee_answer price capacity).dollars }
-{
-    let charged = fees::fee(price, capacity);
-    charged.dollars
-}
-
-fn quality_of(capacity: Dollars, performance: Dollars, factor: i64) -> Dollars
-    ensures { result ≡ (quality_answer capacity performance factor).dollars }
-{
-    let charged = fees::quality_part(capacity, performance, factor);
-    charged.dollars
-}
-
-// The answer of an hour that is not refused.
-fn granted_hour(
-    rate: u8,
-    factor: i64,
-    capacity: Dollars,
-    performance: Dollars,
-    quality: Dollars,
-    energy: Dollars,
-    amount: Dollars,
-) -> Settlement
-    ensures { result ≡ granted_hour rate factor capacity performance quality energy amount }
-{
-    Settlement {
-        refusal: 0,
-        rate: rate,
-        factor: factor,
-        capacity: capacity,
-        performance: performance,
-        quality: quality,
-        energy: energy,
-        amount: amount,
+        amount: Dollars(quality.0 + energy.0),
     }
-}
-
-fn plus(quality: Dollars, energy: Dollars) -> Dollars
-    requires { SFits w64 (quality.0 +ℤ energy.0) }
-    ensures { result ≡ dollars (quality.0 +ℤ energy.0) }
-{
-    let part = quality.0;
-    let paid = energy.0;
-    Dollars(part + paid)
 }

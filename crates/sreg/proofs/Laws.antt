@@ -8,6 +8,7 @@ use native.Mathlib.Nat.{zero-add}
 use native.Mathlib.Omega.{arith}
 use lib.Dec.{eqb}
 use lib.IntN.{ℤ, pos}
+use Rattle.std.specs.Prelude.{Some, None}
 use lib.ListN.{length, get_or}
 use lib.Seq.{ext_get_or}
 use borrow.Author.Tests.{eqb-true, eq-eqb, ne_eqb}
@@ -105,16 +106,26 @@ module _ (powers frequencies : List ℤ) (capacity : Kilowatts) (state : EventSt
 
 -- ---- what a pass over the readings found
 
-pub judged_fit : (state : EventState) (powers frequencies : List ℤ) → (judged_of state powers frequencies).fit ≡ all_read powers frequencies
+pub judged_fit : (state : EventState) (powers frequencies : List ℤ) → all_read powers frequencies ≡ true → Some (state_after state powers frequencies) ≡ judged_of state powers frequencies
 unfolding judged_of
-judged_fit state powers frequencies =
-    by_test (all_read powers frequencies)
-    (λ (t : all_read powers frequencies ≡ true). rw t)
-    (λ (t : all_read powers frequencies ≡ false). rw t)
+judged_fit state powers frequencies t = rw t
 
-pub judged_state : (state : EventState) (powers frequencies : List ℤ) → all_read powers frequencies ≡ true → (judged_of state powers frequencies).state ≡ state_after state powers frequencies
+pub judged_unfit : (state : EventState) (powers frequencies : List ℤ) → all_read powers frequencies ≡ false → None ≡ judged_of state powers frequencies
 unfolding judged_of
-judged_state state powers frequencies t = rw t
+judged_unfit state powers frequencies t = rw t
+
+-- and back
+pub unfit_judged : (state : EventState) (powers frequencies : List ℤ) → judged_of state powers frequencies ≡ None → all_read powers frequencies ≡ false
+unfit_judged state powers frequencies e =
+    by_test (all_read powers frequencies)
+    (λ (t : all_read powers frequencies ≡ true). let n : Some (state_after state powers frequencies) ≡ None = judged_fit state powers frequencies t ∙ e in absurd (cc))
+    (λ (t : all_read powers frequencies ≡ false). t)
+
+pub fit_judged : (state after : EventState) (powers frequencies : List ℤ) → judged_of state powers frequencies ≡ Some after → (all_read powers frequencies ≡ true) × (after ≡ state_after state powers frequencies)
+fit_judged state after powers frequencies e =
+    by_test (all_read powers frequencies)
+    (λ (t : all_read powers frequencies ≡ true). let s : Some (state_after state powers frequencies) ≡ Some after = judged_fit state powers frequencies t ∙ e in (t, cc))
+    (λ (t : all_read powers frequencies ≡ false). let n : None ≡ Some after = judged_unfit state powers frequencies t ∙ e in absurd (cc))
 
 -- ---- the answer to an hour, and what is left in its run
 

@@ -1,5 +1,5 @@
 -- What only mirrors the code: a state as three numbers in a loop; what is tested before the readings are looked at, and what one pass over them finds.
-use Rattle.std.specs.Prelude.{ℕ, Bool, true, false, ◌&&◌, List, [], ◌∷◌, eqb, ℤ, pos, length, get_or}
+use Rattle.std.specs.Prelude.{ℕ, Bool, ◌&&◌, Option, Some, None, List, [], ◌∷◌, eqb, ℤ, pos, length, get_or}
 use Rattle.whole.specs.Choice.{pick, in_order}
 use Rattle.whole.specs.Folds.{all_to}
 use Rattle.units.specs.Limits.{is_capacity, is_power, is_frequency, seconds_of_hour}
@@ -11,7 +11,6 @@ use Rattle.sreg.specs.Run.{state_after}
 use Rattle.sreg.specs.declared.EventState.{EventState}
 use Rattle.sreg.specs.declared.EventState.TheVariants.{Outside, Responding, Holding, Recovering}
 use Rattle.sreg.specs.declared.Place.{Place}
-use Rattle.sreg.specs.declared.Judged.{Judged}
 
 -- 0 outside; 1 responding, with the start power and the seconds scored; 2 holding, with the start power; 3 recovering, with the seconds left
 abbrev pub state_of : Place → EventState
@@ -36,7 +35,7 @@ before_readings powers frequencies places capacity state =
     ∷ (is_state state, bad_reading)
     ∷ [])
 
--- whether the readings fit, and where they do the state after them
-unfoldable pub judged_of : EventState → List ℤ → List ℤ → Judged
+-- where the readings fit, the state after them
+unfoldable pub judged_of : EventState → List ℤ → List ℤ → Option EventState
 judged_of state powers frequencies =
-    pick (all_read powers frequencies) (record { fit = true; state = state_after state powers frequencies }) (record { fit = false; state = Outside })
+    pick (all_read powers frequencies) (Some (state_after state powers frequencies)) None

@@ -41,6 +41,7 @@ pub struct Ended {
 // The scores of an hour's seconds, each by its power and its frequency, from the state that the hour before ended in; a
 // refused run stays as it was. One pass tests the readings and scores them; its scores are handed over once every
 // reading has passed.
+#[tactic(auto, using(crate::proofs::Laws::first_refused))]
 pub fn hour_scores(
     powers: &[i64],
     frequencies: &[i64],
@@ -68,6 +69,7 @@ pub fn hour_scores(
 }
 
 // 1, 2, and 4 for the state; 0 lets the readings be looked at.
+#[tactic(auto, unfolding(crate::specs::Inner::before_readings))]
 fn before_readings(
     powers: usize,
     frequencies: usize,
@@ -77,12 +79,11 @@ fn before_readings(
 ) -> u8
     ensures { result ≡ before_readings powers frequencies places capacity state }
 {
-    let size = capacity.0;
     let long = (powers == limits::SECONDS)
         & (frequencies == limits::SECONDS)
         & (places == limits::SECONDS);
     let on_state = whole::unless(is_state(state), refusals::BAD_READING, 0);
-    let sized = whole::within(size, 1, limits::CAPACITY);
+    let sized = whole::within(capacity.0, 1, limits::CAPACITY);
     let on_capacity = whole::unless(sized, refusals::BAD_CAPACITY, on_state);
     whole::unless(long, refusals::WRONG_LENGTH, on_capacity)
 }
@@ -94,13 +95,9 @@ fn is_state(state: EventState) -> bool
     match state {
         EventState::Outside => true,
         EventState::Responding { start, scored } => {
-            let power = start.0;
-            is_power(power) & ((1 <= scored) & (scored <= 9))
+            is_power(start.0) & ((1 <= scored) & (scored <= 9))
         }
-        EventState::Holding { start } => {
-            let power = start.0;
-            is_power(power)
-        }
+        EventState::Holding { start } => is_power(start.0),
         EventState::Recovering { left } => (1 <= left) & (left <= 10),
     }
 }
@@ -123,78 +120,48 @@ fn judged_hour(
     ensures leaves { scores.new ≡ sreg_scores_left powers.now frequencies.now capacity state scores.old }
 {
     let mut room = [0u8; limits::SECONDS];
-    let judged = judge(powers, frequencies, capacity, state, &mut room);
-    if judged.fit {
-        copy(&room, scores);
-        let after = judged.state;
+    let Some(after) = judge(powers, frequencies, capacity, state, &mut room) else {
         return Ended {
-            refusal: 0,
-            state: after,
+            refusal: refusals::BAD_READING,
+            state: EventState::Outside,
         };
-    }
+    };
+    scores.copy_from_slice(&room);
     Ended {
-        refusal: refusals::BAD_READING,
-        state: EventState::Outside,
+        refusal: 0,
+        state: after,
     }
 }
 
-// Whether a run's readings all fit, and where they do the state after them.
-#[derive(Drop)]
-struct Judged {
-    fit: bool,
-    state: EventState,
-}
-
-// THE PASS over an hour's seconds.
+// THE PASS over an hour's seconds: the state after them where the readings all fit.
 fn judge(
     powers: &[i64],
     frequencies: &[i64],
     capacity: Kilowatts,
     state: EventState,
     scores: &mut [u8],
-) -> Judged
+) -> Option<EventState>
     requires { before_readings (length powers.now) (length frequencies.now) (length scores.old) capacity state ≡ 0 }
     ensures finds { result ≡ judged_of state powers.now frequencies.now }
     ensures scores { all_read powers.now frequencies.now ≡ true → scores.new ≡ scores_from state capacity.0 powers.now frequencies.now }
 {
     let mut reached = place_of(state);
-    let mut i = 0;
-    while i < powers.len() {
-        let power = powers[i];
+    // (By places: what is written through a `zip` of `iter_mut` is not known after it.)
+    for (i, &power) in powers.iter().enumerate() {
         let frequency = frequencies[i];
         if !is_reading(power, frequency) {
-            return Judged {
-                fit: false,
-                state: EventState::Outside,
-            };
+            return None;
         }
-        let score = score_in(reached, power, frequency, capacity);
-        scores[i] = score;
+        scores[i] = score_in(reached, power, frequency, capacity);
         reached = next_state(reached, power, frequency);
-        i += 1;
     }
-    let after = state_of(reached);
-    Judged {
-        fit: true,
-        state: after,
-    }
+    Some(state_of(reached))
 }
 
 fn is_reading(power: i64, frequency: i64) -> bool
     ensures { result ≡ (is_power power && is_frequency frequency) }
 {
     is_power(power) & whole::within(frequency, limits::LEAST_FREQUENCY, limits::MOST_FREQUENCY)
-}
-
-fn copy(from: &[u8], to: &mut [u8])
-    requires { length from.now ≡ length to.old }
-    ensures { to.new ≡ from.now }
-{
-    let mut i = 0;
-    while i < from.len() {
-        to[i] = from[i];
-        i += 1;
-    }
 }
 
 // A state as three numbers of 64 bits, which a loop carries faster than the enum: 0 outside; 1 responding, with the
@@ -215,26 +182,20 @@ fn place_of(state: EventState) -> Place
             power: 0,
             count: 0,
         },
-        EventState::Responding { start, scored } => {
-            let power = start.0;
-            Place {
-                kind: 1,
-                power: power,
-                count: scored as u64,
-            }
-        }
-        EventState::Holding { start } => {
-            let power = start.0;
-            Place {
-                kind: 2,
-                power: power,
-                count: 0,
-            }
-        }
+        EventState::Responding { start, scored } => Place {
+            kind: 1,
+            power: start.0,
+            count: u64::from(scored),
+        },
+        EventState::Holding { start } => Place {
+            kind: 2,
+            power: start.0,
+            count: 0,
+        },
         EventState::Recovering { left } => Place {
             kind: 3,
             power: 0,
-            count: left as u64,
+            count: u64::from(left),
         },
     }
 }
@@ -243,47 +204,41 @@ fn state_of(place: Place) -> EventState
     requires { is_state (state_of place) ≡ true }
     ensures { result ≡ state_of place }
 {
-    let kind = place.kind;
-    let power = place.power;
-    let count = place.count;
-    if kind == 0 {
-        return EventState::Outside;
-    }
-    if kind == 1 {
-        return EventState::Responding {
+    let Place { kind, power, count } = place;
+    match kind {
+        0 => EventState::Outside,
+        1 => EventState::Responding {
             start: Kilowatts(power),
             scored: count as u8,
-        };
-    }
-    if kind == 2 {
-        return EventState::Holding {
+        },
+        2 => EventState::Holding {
             start: Kilowatts(power),
-        };
+        },
+        _ => EventState::Recovering { left: count as u8 },
     }
-    EventState::Recovering { left: count as u8 }
 }
 
-// A second's score, by the state before it.
+// A second's score, by the state before it. (By ifs, here and below: by matches and a clamp hours in order take a tenth
+// longer.)
 fn score_in(place: Place, power: i64, frequency: i64, capacity: Kilowatts) -> u8
     requires { (is_state (state_of place) ≡ true) × ((is_power power ≡ true) × (is_capacity capacity.0 ≡ true)) }
     ensures { result ≡ score_in (state_of place) power frequency capacity.0 }
 {
-    let size = capacity.0;
-    let kind = place.kind;
     let start = place.power;
-    if kind == 0 {
+    if place.kind == 0 {
         if starts(frequency) {
             return limits::SCORE;
         }
-        return percent(power, size);
+        return percent(power, capacity.0);
     }
-    if kind == 2 {
-        return percent(start - power, size);
+    if place.kind == 2 {
+        return percent(start - power, capacity.0);
     }
     limits::SCORE
 }
 
 // The nearest whole percent of a power over capacity, held to 0 to 100.
+#[tactic(auto, unfolding(crate::specs::Second::percent_of))]
 fn percent(power: i64, capacity: i64) -> u8
     requires { Within (2 * most_power) power × Between (pos 1) (pos most_capacity) capacity }
     ensures { result ≡ percent_of power capacity }
@@ -298,12 +253,14 @@ fn percent(power: i64, capacity: i64) -> u8
     p as u8
 }
 
+#[tactic(auto, unfolding(crate::specs::Second::starts))]
 fn starts(frequency: i64) -> bool
     ensures { result ≡ starts frequency }
 {
     frequency <= START
 }
 
+#[tactic(auto, unfolding(crate::specs::Second::ends))]
 fn ends(frequency: i64) -> bool
     ensures { result ≡ ends frequency }
 {
@@ -315,27 +272,27 @@ fn next_state(place: Place, power: i64, frequency: i64) -> Place
     requires { is_state (state_of place) ≡ true }
     ensures { state_of result ≡ next_state (state_of place) power frequency }
 {
-    let kind = place.kind;
-    if kind == 0 {
+    if place.kind == 0 {
         return unless_starts(power, frequency, place);
     }
-    if kind == 1 {
+    if place.kind == 1 {
         return unless_ends(frequency, one_scored(place));
     }
-    if kind == 2 {
+    if place.kind == 2 {
         return unless_ends(frequency, place);
     }
     unless_starts(power, frequency, one_less(place))
 }
 
 // An event starts in this second, or what was goes on.
+#[tactic(auto, unfolding(crate::specs::Second::unless_starts))]
 fn unless_starts(power: i64, frequency: i64, place: Place) -> Place
     ensures { state_of result ≡ unless_starts power frequency (state_of place) }
 {
     if starts(frequency) {
         return Place {
             kind: 1,
-            power: power,
+            power,
             count: 1,
         };
     }
@@ -343,6 +300,7 @@ fn unless_starts(power: i64, frequency: i64, place: Place) -> Place
 }
 
 // An event ends in this second, or goes on.
+#[tactic(auto, unfolding(crate::specs::Second::unless_ends))]
 fn unless_ends(frequency: i64, place: Place) -> Place
     ensures { state_of result ≡ unless_ends frequency (state_of place) }
 {
@@ -361,18 +319,17 @@ fn one_scored(place: Place) -> Place
     requires { place.count ≤ 9 }
     ensures { state_of result ≡ one_scored (kilowatts place.power) place.count }
 {
-    let power = place.power;
-    let count = place.count;
+    let Place { power, count, .. } = place;
     if count == 9 {
         return Place {
             kind: 2,
-            power: power,
+            power,
             count: 0,
         };
     }
     Place {
         kind: 1,
-        power: power,
+        power,
         count: count + 1,
     }
 }

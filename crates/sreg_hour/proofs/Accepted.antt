@@ -16,6 +16,7 @@ use Rattle.rate.specs.Rolling.{are_scores, hourly_rate}
 use Rattle.rate.specs.Accepted.{ScoresFit}
 use Rattle.rate.specs.declared.Rated.{Rated}
 use Rattle.rate.proofs.Rates.{are_scores_lem, rate_granted, rate_within}
+use Rattle.std.specs.Result.{result_unwrap_or}
 use Rattle.bands.specs.Bands.{factor_answer}
 use Rattle.bands.proofs.Laws.{factor_inside}
 use Rattle.hour.specs.Hour.{granted_hour, settled_of}
@@ -72,7 +73,7 @@ module _ (h : SRegHour) (places : ℕ) (f : SRegFits h places) where
   granted_accepted =
       let g = unshifted h in
       let rate = (hourly_rate h.earlier (sreg_scores h)).rate in
-      let factor = (factor_answer h.thresholds h.factors rate).factor in
+      let factor = result_unwrap_or (factor_answer h.thresholds h.factors rate) (pos 0) in
       record {
         powers = lengths.of_powers;
         frequencies = lengths.of_frequencies;

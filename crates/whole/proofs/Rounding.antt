@@ -60,14 +60,6 @@ module _ (m d : ℕ) (h : 0 < d) where
   unfolding half_up
   half_less k = let r = mod-lt m h in let e = split in div-eq_of_lt-le (2 * d) (omega arith) (omega arith)
 
-  pub up_more : 0 < m % d → round_up m d ≡ m / d + 1
-  unfolding round_up
-  up_more k = let r = mod-lt m h in let e = split in div-eq_of_lt-le d (omega arith) (omega arith)
-
-  pub up_less : m % d ≤ 0 → round_up m d ≡ m / d
-  unfolding round_up
-  up_less k = let r = mod-lt m h in let e = split in div-eq_of_lt-le d (omega arith) (omega arith)
-
   -- a quotient with a remainder is less than m
   pub quotient_less : 0 < m % d → m / d < m
   quotient_less k = let e = split in let q = mul-le-mul_left (m / d) h in omega arith

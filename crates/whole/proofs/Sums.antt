@@ -8,6 +8,7 @@ use native.Mathlib.Omega.{arith}
 use lib.Dec.{eqb}
 use lib.IntN.{ℤ, pos, ◌+ℤ◌, +ℤ_idl, +ℤ_idr}
 use lib.Signed.{le_z}
+use Rattle.std.specs.Prelude.{Some}
 use lib.ListN.{length, get_or, take, drop, length-take, length-drop}
 use lib.Seq.{get_or-take, get_or-drop}
 use Rattle.whole.specs.Folds.{fold_to, sum_to, sum_of}
@@ -53,7 +54,7 @@ sum_within {k} (suc n) f h =
     omega (arith, sum (sum_to n f) (f n))
 
 -- a sum that can be taken is
-pub summed_is : (xs : List ℤ) → summable xs ≡ true → summed xs ≡ record { fits = true; sum = sum_of xs }
+pub summed_is : (xs : List ℤ) → summable xs ≡ true → summed xs ≡ Some (sum_of xs)
 unfolding summed
 summed_is xs e = rw e
 

@@ -15,13 +15,6 @@ const MOST_TERM: i64 = 1_000_000_000_000;
 
 const LEAST_TERM: i64 = -MOST_TERM;
 
-// A sum, and whether it could be taken.
-#[derive(Clone, Copy)]
-pub struct Summed {
-    pub fits: bool,
-    pub sum: i64,
-}
-
 // The number k unless the test passed; then the rest.
 pub fn unless(ok: bool, k: u8, rest: u8) -> u8
     ensures { result ≡ unless ok k rest }
@@ -40,13 +33,11 @@ pub fn or_else(k: u8, rest: u8) -> u8
 pub fn at(run: &[i64], place: usize) -> i64
     ensures { result ≡ get_or run.now place (pos 0) }
 {
-    if place < run.len() {
-        return run[place];
-    }
-    0
+    run.get(place).copied().unwrap_or(0)
 }
 
 // Whether x lies from low to high.
+#[tactic(auto, unfolding(crate::specs::Whole::in_range))]
 pub fn within(x: i64, low: i64, high: i64) -> bool
     ensures { result ≡ in_range low high x }
 {
@@ -59,11 +50,8 @@ pub fn all_within(run: &[i64], low: i64, high: i64) -> bool
     ensures { result ≡ all_in_range low high run.now }
 {
     let mut all = true;
-    let mut i = 0;
-    while i < run.len() {
-        let x = run[i];
-        all = all & within(x, low, high);
-        i += 1;
+    for x in run {
+        all &= within(*x, low, high);
     }
     all
 }
@@ -72,11 +60,7 @@ pub fn all_within(run: &[i64], low: i64, high: i64) -> bool
 pub fn size(x: i64) -> u64
     ensures { result ≡ nat_abs x }
 {
-    if x < 0 {
-        let m = -(x + 1);
-        return m as u64 + 1;
-    }
-    x as u64
+    x.unsigned_abs()
 }
 
 // The nearest whole number to n / d, a half going away from zero. The sign of d is left out.
@@ -94,30 +78,20 @@ pub fn away(n: i64, d: i64) -> i64
 }
 
 // The sum of a run of at most 1,000,000 numbers from -10^12 to 10^12.
-pub fn sum(run: &[i64]) -> Summed
+pub fn sum(run: &[i64]) -> Option<i64>
     ensures { result ≡ summed run.now }
 {
-    let none = Summed {
-        fits: false,
-        sum: 0,
-    };
     if MOST_TERMS < run.len() {
-        return none;
+        return None;
     }
     let mut sum: i64 = 0;
-    let mut i = 0;
-    while i < run.len() {
-        let x = run[i];
-        if !within(x, LEAST_TERM, MOST_TERM) {
-            return none;
+    for x in run {
+        if !within(*x, LEAST_TERM, MOST_TERM) {
+            return None;
         }
-        sum += x;
-        i += 1;
+        sum += *x;
     }
-    Summed {
-        fits: true,
-        sum: sum,
-    }
+    Some(sum)
 }
 
 // m with the sign of x.
@@ -151,17 +125,12 @@ fn half_up(m: u64, d: u64) -> u64
 }
 
 // m / d rounded up.
-#[tactic(auto, using(crate::proofs::Rounding::up_zero, crate::proofs::Rounding::up_more, crate::proofs::Rounding::up_less))]
+#[tactic(auto, using(crate::proofs::Rounding::up_zero), unfolding(crate::specs::Whole::round_up))]
 fn round_up(m: u64, d: u64) -> u64
     ensures { result ≡ round_up m d }
 {
     if d == 0 {
         return 0;
     }
-    let q = m / d;
-    let r = m % d;
-    if 0 < r {
-        return q + 1;
-    }
-    q
+    m.div_ceil(d)
 }

@@ -1,4 +1,3 @@
 -- The laws that belong to no one function; `pub` are those that crates above cite.
-mod Finding
 pub mod Refusing
 mod Determined

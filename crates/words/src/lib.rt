@@ -9,6 +9,9 @@ use units::limits;
 mod codes;
 pub mod faults;
 
+// The seconds of an hour, as a shape counts them.
+const SECONDS: u16 = limits::SECONDS as u16;
+
 // What is asked: a rule or an hour, answered by a few fields; a run of them; a frame or two; a logger's frame.
 #[derive(Clone, Copy)]
 pub enum Question {
@@ -87,36 +90,48 @@ pub struct Few {
 }
 
 // THE TABLE: what a word's code asks.
+#[tactic(auto, unfolding(crate::specs::Questions::question_of, crate::specs::Words::letter_of))]
 pub fn question_of(code: u64) -> Row
     ensures { result ≡ question_of code }
 {
     match code {
-        codes::KILOWATTS => singles(Question::Rule(Rule::Kilowatts), 1),
-        codes::CURVE => singles(Question::Rule(Rule::Curve), 2),
-        codes::SCORE => singles(Question::Rule(Rule::Score), 5),
-        codes::RAMP => singles(Question::Series(Series::Ramp), 2),
-        codes::RATE => scored(Question::Rule(Rule::Rate), 0),
-        codes::REACHED => scored(Question::Rule(Rule::Reached), 1),
-        codes::BANDS => groups(Question::Rule(Rule::Bands), 0, 2),
-        codes::FACTOR => groups(Question::Rule(Rule::Factor), 1, 2),
-        codes::FEE => singles(Question::Rule(Rule::Fee), 2),
-        codes::QUALITY => singles(Question::Rule(Rule::Quality), 3),
-        codes::ENERGY => seconds(Question::Rule(Rule::Energy), 6),
-        codes::LOSS => singles(Question::Rule(Rule::Loss), 4),
-        codes::PAIR => singles(Question::Rule(Rule::Pair), 2),
-        codes::DREG => hourly(Question::Hour(Hour::Dreg), 4),
-        codes::EDREG => hourly(Question::Hour(Hour::Edreg), 11),
-        codes::SREG => stated(Question::Hour(Hour::Sreg), 3),
-        codes::DREG_SCORES => hourly(Question::Series(Series::DregScores), 4),
-        codes::EDREG_SCORES => hourly(Question::Series(Series::EdregScores), 11),
-        codes::SREG_SCORES => stated(Question::Series(Series::SregScores), 3),
-        codes::DREG_FRAME => hourly(Question::Frame(Framing::DregFrame), 6),
-        codes::EDREG_FRAME => hourly(Question::Frame(Framing::EdregFrame), 13),
-        codes::SREG_FRAME => stated(Question::Frame(Framing::SregFrame), 5),
-        codes::FRAME => singles(Question::Frame(Framing::Frame), 4),
-        codes::LOSS_FRAMES => singles(Question::Frame(Framing::LossFrames), 4),
-        codes::PAIR_FRAME => singles(Question::PairFrame, 3),
+        codes::KILOWATTS => known(Question::Rule(Rule::Kilowatts), singles(1)),
+        codes::CURVE => known(Question::Rule(Rule::Curve), singles(2)),
+        codes::SCORE => known(Question::Rule(Rule::Score), singles(5)),
+        codes::RAMP => known(Question::Series(Series::Ramp), singles(2)),
+        codes::RATE => known(Question::Rule(Rule::Rate), scored(0)),
+        codes::REACHED => known(Question::Rule(Rule::Reached), scored(1)),
+        codes::BANDS => known(Question::Rule(Rule::Bands), groups(0, 2)),
+        codes::FACTOR => known(Question::Rule(Rule::Factor), groups(1, 2)),
+        codes::FEE => known(Question::Rule(Rule::Fee), singles(2)),
+        codes::QUALITY => known(Question::Rule(Rule::Quality), singles(3)),
+        codes::ENERGY => known(Question::Rule(Rule::Energy), seconds(6)),
+        codes::LOSS => known(Question::Rule(Rule::Loss), singles(4)),
+        codes::PAIR => known(Question::Rule(Rule::Pair), singles(2)),
+        codes::DREG => known(Question::Hour(Hour::Dreg), hourly(4)),
+        codes::EDREG => known(Question::Hour(Hour::Edreg), hourly(11)),
+        codes::SREG => known(Question::Hour(Hour::Sreg), stated(3)),
+        codes::DREG_SCORES => known(Question::Series(Series::DregScores), hourly(4)),
+        codes::EDREG_SCORES => known(Question::Series(Series::EdregScores), hourly(11)),
+        codes::SREG_SCORES => known(Question::Series(Series::SregScores), stated(3)),
+        codes::DREG_FRAME => known(Question::Frame(Framing::DregFrame), hourly(6)),
+        codes::EDREG_FRAME => known(Question::Frame(Framing::EdregFrame), hourly(13)),
+        codes::SREG_FRAME => known(Question::Frame(Framing::SregFrame), stated(5)),
+        codes::FRAME => known(Question::Frame(Framing::Frame), singles(4)),
+        codes::LOSS_FRAMES => known(Question::Frame(Framing::LossFrames), singles(4)),
+        codes::PAIR_FRAME => known(Question::PairFrame, singles(3)),
         _ => unknown(),
+    }
+}
+
+// What a word of the table asks.
+fn known(question: Question, shape: Shape) -> Row
+    ensures { result ≡ known question shape }
+{
+    Row {
+        fault: 0,
+        question,
+        shape,
     }
 }
 
@@ -127,107 +142,69 @@ fn unknown() -> Row
     Row {
         fault: faults::NOT_QUESTION,
         question: Question::Unknown,
-        shape: Shape {
-            head: 0,
-            lists: [0, 0, 0, 0],
-            tail: 0,
-            group: 0,
-        },
+        shape: singles(0),
     }
 }
 
 // Single numbers.
-fn singles(question: Question, head: u8) -> Row
-    ensures { result ≡ known question (singles head) }
+fn singles(head: u8) -> Shape
+    ensures { result ≡ singles head }
 {
-    Row {
-        fault: 0,
-        question,
-        shape: Shape {
-            head,
-            lists: [0, 0, 0, 0],
-            tail: 0,
-            group: 0,
-        },
+    Shape {
+        head,
+        lists: [0; 4],
+        tail: 0,
+        group: 0,
     }
 }
 
 // Single numbers, and one for each second of an hour.
-fn seconds(question: Question, head: u8) -> Row
-    ensures { result ≡ known question (seconds_shape head) }
+fn seconds(head: u8) -> Shape
+    ensures { result ≡ seconds_shape head }
 {
-    Row {
-        fault: 0,
-        question,
-        shape: Shape {
-            head,
-            lists: [0, 0, 0, 0],
-            tail: limits::SECONDS as u16,
-            group: 0,
-        },
+    Shape {
+        tail: SECONDS,
+        ..singles(head)
     }
 }
 
 // Single numbers, earlier scores, and one for each second of an hour.
-fn scored(question: Question, head: u8) -> Row
-    ensures { result ≡ known question (scores_shape head) }
+fn scored(head: u8) -> Shape
+    ensures { result ≡ scores_shape head }
 {
-    Row {
-        fault: 0,
-        question,
-        shape: Shape {
-            head,
-            lists: [1, 0, 0, 0],
-            tail: limits::SECONDS as u16,
-            group: 0,
-        },
+    Shape {
+        lists: [1, 0, 0, 0],
+        ..seconds(head)
     }
 }
 
 // Single numbers, and groups of so many after them.
-fn groups(question: Question, head: u8, group: u8) -> Row
-    ensures { result ≡ known question (singles_groups head group) }
+fn groups(head: u8, group: u8) -> Shape
+    ensures { result ≡ singles_groups head group }
 {
-    Row {
-        fault: 0,
-        question,
-        shape: Shape {
-            head,
-            lists: [0, 0, 0, 0],
-            tail: 0,
-            group,
-        },
+    Shape {
+        group,
+        ..singles(head)
     }
 }
 
 // An hour's: single numbers, the bands, the earlier scores, two readings for each second.
-fn hourly(question: Question, head: u8) -> Row
-    ensures { result ≡ known question (hour_shape head) }
+fn hourly(head: u8) -> Shape
+    ensures { result ≡ hour_shape head }
 {
-    Row {
-        fault: 0,
-        question,
-        shape: Shape {
-            head,
-            lists: [2, 1, 0, 0],
-            tail: 2 * limits::SECONDS as u16,
-            group: 0,
-        },
+    Shape {
+        lists: [2, 1, 0, 0],
+        tail: 2 * SECONDS,
+        ..singles(head)
     }
 }
 
 // An sReg hour's: as an hour's, with the three numbers of a state before the readings.
-fn stated(question: Question, head: u8) -> Row
-    ensures { result ≡ known question (state_shape head) }
+fn stated(head: u8) -> Shape
+    ensures { result ≡ state_shape head }
 {
-    Row {
-        fault: 0,
-        question,
-        shape: Shape {
-            head,
-            lists: [2, 1, 0, 0],
-            tail: 3 + 2 * limits::SECONDS as u16,
-            group: 0,
-        },
+    Shape {
+        tail: 3 + 2 * SECONDS,
+        ..hourly(head)
     }
 }

@@ -84,7 +84,7 @@ returns : tie.Need-returns
 returns c =
     let u = to_z-of_z (cast_upper c.before) ∙ upper_is c.before in
     let l = to_z-of_z (cast_lower c) ∙ lower_is c in
-    λ i. record { refusal = 0; upper = u i; lower = l i }
+    λ i. record { upper = u i; lower = l i }
 
 pub bounds_at_spec : {M : Type 1} → statement M
 bounds_at_spec =

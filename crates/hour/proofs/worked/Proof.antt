@@ -10,6 +10,7 @@ use Rattle.rate.specs.Rolling.{are_scores, hourly_rate}
 use Rattle.score.specs.Run.{run_left}
 use Rattle.hour.specs.Hour.{settled_of, refused_hour}
 use Rattle.hour.specs.Inner.{worked_refusal, worked_of, worked_left}
+use Rattle.rate.specs.declared.Rated.{Rated}
 use Rattle.hour.proofs.worked.Statement.{statement}
 use Rattle.hour.proofs.worked.Tie as tie
 
@@ -46,8 +47,8 @@ returns_2 c =
     let n = r.run_scores-number.ensures.0 in
     rw (through r.before.before.before.before.before.before.before) (c.refused_hour-then-number-ne0.ensures ∙ ap refused_hour n ∙ sym (kept_old _ _ (λ z. t.if-number-ne0.true (n ∙ z))), r.run_scores-number.ensures.1)
 
-rate_of_requires : tie.Need-rate_of-requires
-rate_of_requires c κs = search rules
+hourly_rate_requires : tie.Need-hourly_rate-rate-requires
+hourly_rate_requires c κs = search rules
 
 settled_requires : tie.Need-settled-requires
 settled_requires c κs = search rules
@@ -63,7 +64,7 @@ returns_3 c =
     let a = r.args in
     let none = sym r.run_scores-number.ensures.0 ∙ e.if-number-ne0.false in
     let scores = r.run_scores-number.ensures.1 ∙ kept_new _ _ none in
-    let rate = ap (settled_of a.terms a.thresholds.now a.factors.now a.energy) c.rate_of.ensures in
+    let rate = ap (λ (x : Rated). settled_of a.terms a.thresholds.now a.factors.now a.energy x.rate) c.hourly_rate-rate.ensures in
     let settled = ap (λ (l : List ℕ). settled_of a.terms a.thresholds.now a.factors.now a.energy (hourly_rate a.earlier.now l).rate) scores in
     rw (through r.before.before.before.before.before.before.before.before) (c.settled.ensures ∙ rate ∙ settled ∙ sym (kept_new _ _ none), r.run_scores-number.ensures.1)
 
@@ -78,7 +79,7 @@ worked_spec =
     refused_hour_requires_2
     same_length
     returns_2
-    rate_of_requires
+    hourly_rate_requires
     settled_requires
     same_length_2
     returns_3)

@@ -1,6 +1,6 @@
 -- `loss::losses` meets its contract: each product and the sum are within the laws' bounds, and so they fit. Assumes nothing.
 use mathlib.Core.Path.{◌≡◌}
-use lib.IntN.{ℤ, ◌*ℤ◌}
+use lib.IntN.{◌*ℤ◌}
 use mir.Syntax.{w64}
 use mir.Val.{to_z, of_z}
 use mir.Facts.{to_z-of_z}
