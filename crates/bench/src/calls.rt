@@ -23,11 +23,13 @@ pub(crate) fn by_value(days: u8, closed: bool, calls: u64) -> u64 {
     let mut sum = 0;
     for _ in 0..calls {
         x = chance::next(x);
-        let (k, next) = match called(m, draw::by_chance(x)) {
-            Ok(next) => (0, next),
-            Err(refusal) => (refusal.number(), m),
+        let k = match called(m, draw::by_chance(x)) {
+            Ok(next) => {
+                m = next;
+                0
+            }
+            Err(refusal) => refusal.number(),
         };
-        m = next;
         sum = chance::mixed(sum, u64::from(k));
     }
     draw::with_amounts(sum, &m.amounts)

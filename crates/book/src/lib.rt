@@ -34,12 +34,22 @@ pub fn take(cover: Cover, line: &[u8], marks: &mut [bool], amounts: &mut [i64]) 
     ensures number { result.refusal ≡ reading_refusal (book_of cover marks.old amounts.old) (reading_of line.now) }
     ensures book { book_of result.cover marks.new amounts.new ≡ book_in (book_of cover marks.old amounts.old) (reading_of line.now) }
 {
-    match frame::read_frame(line) {
-        Ok(entry) => take_frame(cover, entry, marks, amounts),
-        Err(refusal) => Taken {
-            refusal: refusal.number(),
+    let got = frame::read_frame(line);
+    let Ok(entry) = got else {
+        return Taken {
+            refusal: refusal_number(got),
             cover,
-        },
+        };
+    };
+    take_frame(cover, entry, marks, amounts)
+}
+
+fn refusal_number(got: Result<Entry, Refusal>) -> u8
+    ensures { result ≡ told_number got }
+{
+    match got {
+        Ok(_) => 0,
+        Err(refusal) => refusal.number(),
     }
 }
 

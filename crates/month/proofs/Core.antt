@@ -1,6 +1,6 @@
--- The calls by value, over the calls in place: 22, and a month put together from what a call in place answered and left; a refused call hands the same ledger
--- back. By rewriting with the test for 22. Assumes nothing.
-use Prim.Native.Nat.{ℕ, zero, suc, ◌+◌, ◌≤◌}
+-- The calls by value, over the calls in place: 22, and a month put together from what a call in place answered and left; and the marks that are set. By rewriting
+-- with the test for 22, and a mark after the other. Assumes nothing.
+use Prim.Native.Nat.{ℕ, zero, suc, ◌+◌, ◌≤◌, ◌<◌}
 use mathlib.Core.Path.{◌≡◌, refl, sym, ap, ap₂, ◌∙◌}
 use mathlib.Core.Bool.{Bool, true, false, not}
 use mathlib.Core.List.{List}
@@ -16,6 +16,7 @@ use Rattle.whole.specs.Folds.{fold_to, count_to}
 use Rattle.std.specs.Prelude.{Result, Ok, Err}
 use Rattle.std.specs.Result.{is_ok}
 use lib.Dec.{eqb}
+use mir.Val.{bool_byte}
 use Rattle.whole.specs.Choice.{pick, unless}
 use Rattle.whole.proofs.Choice.{by_test, kept_new}
 use Rattle.history.specs.Rules.{Call, Deed, call_tests}
@@ -150,6 +151,17 @@ ok_by k = go (eqb k 0)
 pub open_is : (days : ℕ) → booked_of (opened_head days) (replicate month_places false) (replicate month_places (pos 0)) ≡ open_of days
 unfolding open_of opened_head fresh_month
 open_is days = booked_by (unless (is_days days) not_in_month 0) (fresh_head days) (replicate month_places false) (replicate month_places (pos 0))
+
+-- one mark more, and a mark as a number
+pub mark_more : (xs : List Bool) (n : ℕ) → n < length xs → count_by (λ x. x) (take (n + 1) xs) ≡ count_by (λ x. x) (take n xs) + bool_byte (get_or xs n false)
+mark_more xs n h =
+    by_test (get_or xs n false)
+    (λ (t : get_or xs n false ≡ true). rw t (count_by_more_yes (λ x. x) xs n false h t))
+    (λ (t : get_or xs n false ≡ false). rw t (count_by_more_no (λ x. x) xs n false h t ∙ sym (add-zero _)))
+
+pub byte_le : (b : Bool) → bool_byte b ≤ 1
+byte_le true = omega arith
+byte_le false = omega arith
 
 -- the marks that are set, counted as a list and by their places
 marks_to : (xs : List Bool) (n : ℕ) → n ≤ length xs → count_by (λ x. x) (take n xs) ≡ count_to n (λ p. get_or xs p false)

@@ -62,30 +62,32 @@ fn first_below(earlier: &[u8], scores: &[u8], threshold: u8) -> Verdict
     ensures { result ≡ verdict_of earlier.now scores.now threshold }
 {
     let mut read = 0;
-    'seconds: for i in 0..scores.len() {
-        let width = width(earlier.len() + i);
-        for k in 0..width {
-            let score = score_back(earlier, scores, i, k);
-            read += 1;
-            if threshold <= score {
-                continue 'seconds;
+    'hour: {
+        'seconds: for i in 0..scores.len() {
+            let width = width(earlier.len() + i);
+            for k in 0..width {
+                let score = score_back(earlier, scores, i, k);
+                read += 1;
+                if threshold <= score {
+                    continue 'seconds;
+                }
             }
+            let second = i + 1;
+            break 'hour Verdict {
+                refusal: 0,
+                reached: false,
+                second,
+                judged: second,
+                read,
+            };
         }
-        let second = i + 1;
-        return Verdict {
+        Verdict {
             refusal: 0,
-            reached: false,
-            second,
-            judged: second,
+            reached: true,
+            second: 0,
+            judged: scores.len(),
             read,
-        };
-    }
-    Verdict {
-        refusal: 0,
-        reached: true,
-        second: 0,
-        judged: scores.len(),
-        read,
+        }
     }
 }
 

@@ -2,28 +2,30 @@
 ghost use Rattle.std.specs.Prelude.{◌≡◌};
 ghost use Rattle.units.specs.Refusals.{paper_number};
 
+use crate::refusals;
+
 #[derive(Clone, Copy, PartialEq, Eq)]
 pub enum Refusal {
-    WrongLength = 1,
-    BadCapacity = 2,
-    BadMoney = 3,
-    BadReading = 4,
-    BadBands = 5,
-    NotInMonth = 6,
-    PlaceFilled = 7,
-    PlaceEmpty = 8,
-    MonthClosed = 9,
-    BadTransfer = 10,
-    BadDigit = 11,
-    BadSum = 12,
-    BadKind = 13,
-    NotOpen = 14,
-    BadEnergy = 15,
-    BadAmount = 16,
-    NotFinite = 17,
-    WrongSecond = 18,
-    BadReference = 19,
-    NotReachable = 22,
+    WrongLength = refusals::WRONG_LENGTH as isize,
+    BadCapacity = refusals::BAD_CAPACITY as isize,
+    BadMoney = refusals::BAD_MONEY as isize,
+    BadReading = refusals::BAD_READING as isize,
+    BadBands = refusals::BAD_BANDS as isize,
+    NotInMonth = refusals::NOT_IN_MONTH as isize,
+    PlaceFilled = refusals::PLACE_FILLED as isize,
+    PlaceEmpty = refusals::PLACE_EMPTY as isize,
+    MonthClosed = refusals::MONTH_CLOSED as isize,
+    BadTransfer = refusals::BAD_TRANSFER as isize,
+    BadDigit = refusals::BAD_DIGIT as isize,
+    BadSum = refusals::BAD_SUM as isize,
+    BadKind = refusals::BAD_KIND as isize,
+    NotOpen = refusals::NOT_OPEN as isize,
+    BadEnergy = refusals::BAD_ENERGY as isize,
+    BadAmount = refusals::BAD_AMOUNT as isize,
+    NotFinite = refusals::NOT_FINITE as isize,
+    WrongSecond = refusals::WRONG_SECOND as isize,
+    BadReference = refusals::BAD_REFERENCE as isize,
+    NotReachable = refusals::NOT_REACHABLE as isize,
 }
 
 impl Refusal {

@@ -1,6 +1,7 @@
 -- Demand 1, "a refusal gives its number only and changes neither the ledger nor any lent run of numbers", as a statement about a contract: `Post` is the contract as
 -- the toolchain reads it off the source (the module `Reads` of a function), so that a contract that is weakened later no longer has its line in
--- proofs/RefusedKeeps.antt.
+-- proofs/RefusedKeeps.antt. (Where a call answers a `Result` and lends no run, the type says it, and the line holds of any contract: which refusal it is, is the
+-- contract's equation.)
 use Rattle.std.specs.Prelude.{ℕ, ◌≡◌, List}
 use contract.Lifetimes.{Lfts}
 use borrow.Fn.Kinds.{ParamKind, ResultKind, Dens, Out, res_t, ended_of}

@@ -30,8 +30,8 @@ loop-k-preserved c =
     let score : get_or (window_at a.earlier.now a.scores.now i) k 0 ≡ c.score_back-score.result = rw c.score_back-score.ensures (window_at_lem a.earlier.now a.scores.now i k (omega arith) (omega arith) (omega arith)) in
     record { count = omega (arith, c.loop-k.invariant.count); below = read_to_more _ _ k c.loop-k.invariant.below (omega arith) (omega arith) }
 
-pub returns-in-seconds : goal.returns-in-seconds
-returns-in-seconds c =
+pub returns-after-loop-k : goal.returns-after-loop-k
+returns-after-loop-k c =
     let a = c.args in
     let i = c.seconds.i in
     let w = c.width-width.ensures in
@@ -39,7 +39,7 @@ returns-in-seconds c =
     let read : c.loop-k.read ≡ c.seconds.read + c.loop-k.k = c.loop-k.invariant.count in
     rw read (sym (judging_named _ _ _ _ _ c.seconds.invariant.judging (omega arith) (read_to_all _ _ _ c.loop-k.invariant.below (omega arith))))
 
-pub returns : goal.returns
-returns c =
+pub returns-after-seconds : goal.returns-after-seconds
+returns-after-seconds c =
     let n : c.seconds.i ≡ length c.args.scores.now = omega arith in
     rw (sym n) (sym (judging_all _ _ _ _ _ c.seconds.invariant.judging (omega arith) (omega arith)))
